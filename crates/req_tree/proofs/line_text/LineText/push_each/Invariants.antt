@@ -1,0 +1,11 @@
+use Rattle.std.proofs.Common.{◌≡◌, ◌+◌, ◌*◌, ◌≤◌, ◌++◌, length, take}
+use Rattle.std.specs.List.{flat_map}
+use Rattle.req_tree.specs.LineText.{line_bytes}
+use Rattle.req_tree.specs.WordText.{byte_text}
+use Rattle.req_tree.proofs.line_text.LineText.push_each.Given as goal
+
+abbrev pub invariant-loop-byte : goal.invariant-loop-byte
+invariant-loop-byte l = record {
+  text : line_bytes l.self ≡ line_bytes l.fn.self ++ flat_map byte_text (take l.byte-index l.word);
+  length : length (line_bytes l.self) ≤ length (line_bytes l.fn.self) + 3 * l.byte-index;
+}

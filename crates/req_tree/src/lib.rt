@@ -1,0 +1,24 @@
+//! Requirement trees of the code signing requirement language, what they mean, and the small values
+//! that they speak of.
+#![tactic(auto)]
+
+mod bytes;
+mod hash;
+mod identifier;
+mod line_text;
+mod matching;
+mod meaning;
+mod oid;
+mod req;
+mod shared;
+mod subject;
+
+pub use bytes::Bytes;
+pub use hash::Hash20;
+pub use identifier::Identifier;
+pub use line_text::LineText;
+pub use matching::Match;
+pub use oid::Oid;
+pub use req::Req;
+pub use shared::SharedReq;
+pub use subject::Subject;
