@@ -1,0 +1,35 @@
+//! Bytes that go out.
+
+ghost use Rattle.std.specs.Prelude.{◌≡◌, ◌≤◌, ℕ, List, Option, OnErr, is_some};
+ghost use Rattle.std.specs.Io.KnownBytes.{Keeps};
+ghost use Rattle.gk_io.specs.Faults.{Rose};
+ghost use Rattle.gk_io.specs.Told.{PutAppends};
+
+use crate::fault::Failed;
+
+/// What takes bytes, in order.
+pub trait Sink {
+    // The bytes that were written, where the sink tells them.
+    ghost written: { Self → Option (List ℕ) };
+
+    // How many of its calls failed, up to the greatest u64.
+    ghost faults: { Self → ℕ };
+
+    /// Writes all the bytes, or at a failure a front of them.
+    fn put(&mut self, bytes: &[u8]) -> Result<(), Failed>
+        ensures bytes { PutAppends (written self.old) (written self.new) result bytes.now }
+        ensures telling { is_some (written self.new) ≡ is_some (written self.old) }
+
+        // A failure shows in the count, which never falls.
+        ensures later { faults self.old ≤ faults self.new }
+        ensures cause { OnErr result (Rose (faults self.old) (faults self.new)) };
+
+    /// Hands on what was written. The bytes stay written whether it fails or not.
+    fn flush(&mut self) -> Result<(), Failed>
+        ensures bytes { Keeps (written self.old) (written self.new) }
+        ensures telling { is_some (written self.new) ≡ is_some (written self.old) }
+
+        // A failure shows in the count, which never falls.
+        ensures later { faults self.old ≤ faults self.new }
+        ensures cause { OnErr result (Rose (faults self.old) (faults self.new)) };
+}
