@@ -1,0 +1,18 @@
+-- A history with one more event.
+use Rattle.std.proofs.Common.{◌≡◌, ℕ, List, [], ◌∷◌, ◌++◌, refl}
+use Rattle.policy_model.specs.Edits.{Tables}
+use Rattle.policy_model.specs.History.{Event, Opening, tables_step, tables_after, tables_of, now_step, now_after, now_of}
+
+tables_after-more : (h : List Event) (e : Event) (t : Tables) → tables_after (h ++ e ∷ []) t ≡ tables_step e (tables_after h t)
+tables_after-more [] e t = refl
+tables_after-more (d ∷ h) e t = tables_after-more h e (tables_step d t)
+
+now_after-more : (h : List Event) (e : Event) (n : ℕ) → now_after (h ++ e ∷ []) n ≡ now_step e (now_after h n)
+now_after-more [] e n = refl
+now_after-more (d ∷ h) e n = now_after-more h e (now_step d n)
+
+pub tables_of-more : (o : Opening) (h : List Event) (e : Event) → tables_of o (h ++ e ∷ []) ≡ tables_step e (tables_of o h)
+tables_of-more o h e = tables_after-more h e o.tables
+
+pub now_of-more : (o : Opening) (h : List Event) (e : Event) → now_of o (h ++ e ∷ []) ≡ now_step e (now_of o h)
+now_of-more o h e = now_after-more h e o.now

@@ -1,0 +1,5 @@
+mod WorkedRows
+pub mod RuleLaws
+pub mod IdLaws
+pub mod OutcomeLaws
+pub mod HistoryLaws

@@ -1,0 +1,5 @@
+use Rattle.policy_model.proofs.IdLaws.{ids_after}
+use Rattle.policy_model.proofs.laws.ids_stay_own.Goals as goal
+
+pub returns-clause-kept : goal.returns-clause-kept
+returns-clause-kept c = λ o h ids. ids_after h o.tables ids

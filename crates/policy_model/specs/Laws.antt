@@ -1,0 +1,36 @@
+-- What follows from the definitions alone; each is proved on a function of src/laws.rt.
+use Rattle.std.specs.Prelude.{◌≡◌, ℕ, List, Option}
+use Rattle.req_tree.specs.Subject.{Subject}
+use Rattle.req_tree.specs.Facts.{Facts}
+use Rattle.policy_model.specs.Rules.{Row, Kind, Governs, IsLatent}
+use Rattle.policy_model.specs.Outcomes.{Outcome, outcome, outcome_by}
+use Rattle.policy_model.specs.Edits.{Tables}
+use Rattle.policy_model.specs.History.{Event, Opening, tables_of, HasOwnIds}
+
+-- an outcome is that of a rule that governs, or of none and a latent one
+abbrev pub IsOutcome : List Row → Kind → Subject → Facts → ℕ → Outcome → Type 0
+IsOutcome rows kind subject facts m o =
+    (g l : Option Row) × Governs rows kind subject facts m g × IsLatent rows kind subject facts m l × (o ≡ outcome_by rows kind m g l)
+
+-- what is computed of the rows is the outcome of the rule that governs
+abbrev pub OutcomeIsRight : Type 0
+OutcomeIsRight = (rows : List Row) (kind : Kind) (subject : Subject) (facts : Facts) (m : ℕ) → IsOutcome rows kind subject facts m (outcome rows kind subject facts m)
+
+-- ids that rise stay so through any history
+abbrev pub IdsStayOwn : Type 0
+IdsStayOwn = (o : Opening) (h : List Event) → HasOwnIds o.tables → HasOwnIds (tables_of o h)
+
+-- at most one rule governs
+abbrev pub GovernsOnce : Type 0
+GovernsOnce = (t : Tables) → HasOwnIds t → (kind : Kind) (subject : Subject) (facts : Facts) (m : ℕ) (a b : Option Row) →
+    Governs t.rows kind subject facts m a → Governs t.rows kind subject facts m b → a ≡ b
+
+-- at most one rule is latent
+abbrev pub LatentOnce : Type 0
+LatentOnce = (t : Tables) → HasOwnIds t → (kind : Kind) (subject : Subject) (facts : Facts) (m : ℕ) (a b : Option Row) →
+    IsLatent t.rows kind subject facts m a → IsLatent t.rows kind subject facts m b → a ≡ b
+
+-- so the outcome is the only one
+abbrev pub OutcomeIsOne : Type 0
+OutcomeIsOne = (t : Tables) → HasOwnIds t → (kind : Kind) (subject : Subject) (facts : Facts) (m : ℕ) (o : Outcome) →
+    IsOutcome t.rows kind subject facts m o → o ≡ outcome t.rows kind subject facts m

@@ -1,0 +1,10 @@
+pub mod Rules
+pub mod Outcomes
+pub mod Texts
+pub mod Edits
+pub mod History
+pub mod Words
+pub mod Lines
+pub mod Replies
+pub mod Session
+pub mod Laws

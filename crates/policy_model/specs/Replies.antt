@@ -1,0 +1,66 @@
+-- The texts of replies. This project's own.
+use Rattle.std.specs.Prelude.{ℕ, List, ◌++◌, Bool, Option, Some, None, if◌then◌else◌, codes, decimal}
+use Rattle.req_tree.specs.Subject.{Subject}
+use Rattle.req_tree.specs.WordText.{word_text}
+use Rattle.policy_model.specs.Outcomes.{Verdict}
+use Rattle.policy_model.specs.Edits.{Answer, done, repeated, key_reused, no_rule, table_full, receipts_full, disable_full}
+
+-- where a verdict comes from: the rules, a kept outcome, or the want of a signature
+pub data Origin : Type 0 where
+  rules : Origin
+  cache : Origin
+  unsigned : Origin
+
+-- the origin of the verdict on an ask, while no outcome is kept
+abbrev pub origin_on : Option Subject → Origin
+origin_on None = unsigned
+origin_on (Some s) = rules
+
+abbrev pub origin_text : Origin → List ℕ
+origin_text rules = codes "rules"
+origin_text cache = codes "cache"
+origin_text unsigned = codes "unsigned"
+
+-- what became of the offer to keep the outcome: nothing is kept yet
+abbrev pub cache_text : Origin → List ℕ
+cache_text rules = codes "off"
+cache_text cache = codes "none"
+cache_text unsigned = codes "none"
+
+-- a rule's number, or none
+abbrev pub number_text : Option ℕ → List ℕ
+number_text None = codes "none"
+number_text (Some n) = decimal n
+
+abbrev pub accepted_text : Bool → List ℕ
+accepted_text allow = if allow then codes "accepted" else codes "rejected"
+
+abbrev pub override_text : Bool → List ℕ
+override_text overridden = if overridden then codes "security%20disabled" else codes "none"
+
+unfoldable pub verdict_text : Verdict → Origin → List ℕ
+verdict_text v origin =
+    accepted_text v.allow ++ codes " at=" ++ decimal v.at ++ codes " rule=" ++ number_text v.rule ++ codes " latent=" ++ number_text v.latent
+    ++ codes " label=" ++ word_text v.label ++ codes " override=" ++ override_text v.overridden
+    ++ codes " source=" ++ origin_text origin ++ codes " cache=" ++ cache_text origin
+
+-- the edit's number, and how many rules it touched
+abbrev pub numbers_text : ℕ → ℕ → List ℕ
+numbers_text number count = codes " edit=" ++ decimal number ++ codes " rules=" ++ decimal count
+
+abbrev pub answer_text : Answer → List ℕ
+answer_text (done n k) = codes "ok" ++ numbers_text n k
+answer_text (repeated n k) = codes "repeated" ++ numbers_text n k
+answer_text (key_reused n k) = codes "refused edit 12 KeyReused" ++ numbers_text n k
+answer_text no_rule = codes "refused edit 11 NoRule"
+answer_text table_full = codes "refused edit 13 TableFull"
+answer_text receipts_full = codes "refused edit 14 ReceiptsFull"
+answer_text (disable_full id) = codes "refused edit 15 DisableFull rule=" ++ decimal id
+
+-- the desk's moment
+abbrev pub now_text : ℕ → List ℕ
+now_text m = codes "now=" ++ decimal m
+
+-- the answer to a line of no form that is read yet
+abbrev pub not_built_text : List ℕ
+not_built_text = codes "refused line 8 NotBuilt"
