@@ -1,10 +1,10 @@
 -- The first row of a list that has a property: the tests find it.
-use Rattle.std.proofs.Common.{◌≡◌, ℕ, zero, suc, ◌<◌, List, [], ◌∷◌, get_or, refl, sym, ap, ◌∙◌, arith, Option, Some, None}
-use Rattle.std.specs.Prelude.{Bool, true, false, not, ◌&&◌, IfSome, nat_lt, if◌then◌else◌, Contains}
+use Rattle.std.proofs.Common.{◌≡◌, ℕ, zero, suc, ◌<◌, List, [], ◌∷◌, get_or, refl, sym, ap, ◌∙◌, arith, Option, Some, None, ◌++◌}
+use Rattle.std.specs.Prelude.{Bool, true, false, not, ◌&&◌, IfSome, nat_lt, if◌then◌else◌, All, Contains}
 use Rattle.std.proofs.lemmas.Int.{ints}
 use Rattle.std.proofs.lemmas.Bool.{ltb-true, lt-ltb, and_parts, and_from, both_ways}
 use Rattle.std.proofs.lemmas.Bool.Decides.{nat_tests}
-use Rattle.std.proofs.lemmas.List.Elements.{All-cons, All-nil}
+use Rattle.std.proofs.lemmas.List.Elements.{All-cons, All-nil, All-append, Contains-append_left, Contains-append_right}
 use Rattle.req_tree.specs.Subject.{Subject}
 use Rattle.req_tree.specs.Facts.{Facts}
 use Rattle.req_tree.specs.Meaning.{mean}
@@ -119,15 +119,59 @@ meets_to d kind subject facts m r h =
     let b = and_parts (same_kind r.kind kind && is_below m r.expires) (is_counted d r.disabled) c.0 in
     let a = and_parts (same_kind r.kind kind) (is_below m r.expires) b.0 in
     record {
-      of_kind = same_kind-true r.kind kind a.0;
-      live = record { unexpired = below_to r.expires m a.1 };
+      applies = record { of_kind = same_kind-true r.kind kind a.0; live = record { unexpired = below_to r.expires m a.1 }; means_true = c.1 };
       counted = counted_to d r.disabled (nat_lt 0 r.disabled) refl b.1;
-      means_true = c.1;
     }
 
 pub meets_from : (d : Bool) (kind : Kind) (subject : Subject) (facts : Facts) (m : ℕ) (r : Row) → Meets d kind subject facts m r → meets d kind subject facts m r ≡ true
 meets_from d kind subject facts m r h =
-    and_from _ _ (and_from _ _ (and_from _ _ (same_kind-from r.kind kind h.of_kind) (below_from r.expires m h.live.unexpired)) (counted_from d (nat_lt 0 r.disabled) h.counted)) h.means_true
+    and_from _ _ (and_from _ _ (and_from _ _ (same_kind-from r.kind kind h.applies.of_kind) (below_from r.expires m h.applies.live.unexpired)) (counted_from d (nat_lt 0 r.disabled) h.counted)) h.applies.means_true
 
 pub first_meets : (d : Bool) (kind : Kind) (subject : Subject) (facts : Facts) (m : ℕ) (rows : List Row) → IsFirstOf (Meets d kind subject facts m) rows (first (meets d kind subject facts m) rows)
 first_meets d kind subject facts m rows = first_is (meets d kind subject facts m) (Meets d kind subject facts m) (meets_to d kind subject facts m) (meets_from d kind subject facts m) rows
+
+-- a search that goes on by one more row at the end
+
+one_of : (P : Row → Type 0) (x : Row) → P x → All P (x ∷ [])
+one_of P x p = All-cons P x [] p (All-nil P)
+
+all_more : (P : Row → Type 0) (rs : List Row) (x : Row) → All P rs → P x → All P (rs ++ x ∷ [])
+all_more P rs x all p = All-append P rs (x ∷ []) all (one_of P x p)
+
+contains_last : (rs : List Row) (x : Row) → Contains (rs ++ x ∷ []) x
+contains_last rs x = Contains-append_right rs (x ∷ []) x (first_one x [])
+
+last_first : (P : Row → Type 0) (rs : List Row) (x : Row) → HasNone P rs → P x → IsFirst P (rs ++ x ∷ []) x
+last_first P rs x none p = record {
+  among = contains_last rs x;
+  itself = p;
+  first = all_more (λ s. P s → Before (rank_of s) (rank_of x) → ⊥) rs x (λ k d h q b. none k d h q) (λ q b. before_irrefl (rank_of x) b);
+}
+
+last_sooner : (P : Row → Type 0) (rs : List Row) (x s : Row) → is_before (rank_of s) (rank_of x) ≡ false → IsFirst P rs s → P x → IsFirst P (rs ++ x ∷ []) x
+last_sooner P rs x s after f p = record {
+  among = contains_last rs x;
+  itself = p;
+  first = all_more (λ r. P r → Before (rank_of r) (rank_of x) → ⊥) rs x (λ k d h q b. f.first k d h q (before_on (rank_of (get_or rs k d)) (rank_of x) (rank_of s) after b)) (λ q b. before_irrefl (rank_of x) b);
+}
+
+last_later : (P : Row → Type 0) (rs : List Row) (x s : Row) → (P x → Before (rank_of x) (rank_of s) → ⊥) → IsFirst P rs s → IsFirst P (rs ++ x ∷ []) s
+last_later P rs x s not' f = record {
+  among = Contains-append_left rs (x ∷ []) s f.among;
+  itself = f.itself;
+  first = all_more (λ r. P r → Before (rank_of r) (rank_of s) → ⊥) rs x f.first not';
+}
+
+last_of_two : (P : Row → Type 0) (rs : List Row) (x s : Row) (c : Bool) → is_before (rank_of s) (rank_of x) ≡ c → IsFirst P rs s → P x → IsFirst P (rs ++ x ∷ []) (if c then s else x)
+last_of_two P rs x s true e f p = last_later P rs x s (λ q b. before_asym (rank_of x) (rank_of s) b (test_before (rank_of s) (rank_of x) e)) f
+last_of_two P rs x s false e f p = last_sooner P rs x s e f p
+
+-- one that has the property
+pub passes_last : (P : Row → Type 0) (rs : List Row) (x : Row) (o : Option Row) → IsFirstOf P rs o → P x → IsFirstOf P (rs ++ x ∷ []) (Some (sooner x o))
+passes_last P rs x None none p = last_first P rs x none p
+passes_last P rs x (Some s) f p = last_of_two P rs x s (is_before (rank_of s) (rank_of x)) refl f p
+
+-- one that hasn't
+pub fails_last : (P : Row → Type 0) (rs : List Row) (x : Row) (o : Option Row) → IsFirstOf P rs o → (P x → ⊥) → IsFirstOf P (rs ++ x ∷ []) o
+fails_last P rs x None none not' = all_more (λ s. P s → ⊥) rs x none not'
+fails_last P rs x (Some s) f not' = last_later P rs x s (λ p b. not' p) f

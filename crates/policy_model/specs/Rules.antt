@@ -50,12 +50,16 @@ Before a b = (b.priority <ℤ a.priority) ⊎ ((a.priority ≡ b.priority) × (a
 pub record Live (m : ℕ) (r : Row) : Type 0 where
   pub unexpired : IfSome r.expires (λ e. m < e)
 
--- the rule is of the kind, live at m, disabled or enabled as asked, and means true of the subject
-pub record Meets (disabled : Bool) (kind : Kind) (subject : Subject) (facts : Facts) (m : ℕ) (r : Row) : Type 0 where
+-- the rule, be it enabled or not, is of the kind, live at m, and means true of the subject
+pub record Applies (kind : Kind) (subject : Subject) (facts : Facts) (m : ℕ) (r : Row) : Type 0 where
   pub of_kind : r.kind ≡ kind
   pub live : Live m r
-  pub counted : nat_lt 0 r.disabled ≡ disabled
   pub means_true : IsTrue (mean r.tree subject facts)
+
+-- it applies, and is disabled or enabled as asked
+pub record Meets (disabled : Bool) (kind : Kind) (subject : Subject) (facts : Facts) (m : ℕ) (r : Row) : Type 0 where
+  pub applies : Applies kind subject facts m r
+  pub counted : nat_lt 0 r.disabled ≡ disabled
 
 -- r is among the rows and has the property, and no other row that has it is tried before r
 pub record IsFirst (P : Row → Type 0) (rows : List Row) (r : Row) : Type 0 where

@@ -1,0 +1,6 @@
+use Rattle.std.proofs.Common.{rules}
+use Rattle.authority_table.proofs.FoundLemmas.{one_further}
+use Rattle.authority_table.proofs.table.Table.find.Goals as goal
+
+pub loop-rule-preserved : goal.loop-rule-preserved
+loop-rule-preserved c = one_further _ _ _ _ c.deref-rule-items.result.now c.loop-rule.rule-index _ _ _ (search rules) c.rule-item.is (c.with-found.ensures _ c.loop-rule.invariant)

@@ -1,0 +1,19 @@
+-- What a search of the rules found.
+use Rattle.std.specs.Prelude.{List, ℕ, Option, option_map}
+use Rattle.std.specs.Option.{option_copied}
+use Rattle.req_tree.specs.Subject.{Subject}
+use Rattle.req_tree.specs.Facts.{Facts}
+use Rattle.policy_model.specs.Rules.{Row, Kind, Governs, IsLatent}
+use Rattle.authority_table.specs.declared.found.Found.{Found}
+use Rattle.authority_table.specs.Rule.{row_of}
+
+abbrev pub governing_row : Found → Option Row
+governing_row f = option_map row_of (option_copied f.governing)
+
+abbrev pub latent_row : Found → Option Row
+latent_row f = option_map row_of (option_copied f.latent)
+
+-- the rule that governs among the rows, and the latent one
+pub record IsFound (rows : List Row) (kind : Kind) (subject : Subject) (facts : Facts) (m : ℕ) (f : Found) : Type 0 where
+  pub governing : Governs rows kind subject facts m (governing_row f)
+  pub latent : IsLatent rows kind subject facts m (latent_row f)

@@ -1,0 +1,5 @@
+pub mod Kind
+pub mod Label
+pub mod Rank
+pub mod Rule
+pub mod Found

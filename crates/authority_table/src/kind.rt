@@ -1,0 +1,29 @@
+//! What code is assessed for.
+
+/// The type of a rule and of an assessment, after `--type` of spctl(8).
+#[derive(Clone, Copy, Debug, Drop, PartialEq, Eq, Hash)]
+pub enum Kind {
+    /// To be executed.
+    Execute,
+    /// To be installed.
+    Install,
+    /// To be opened as a document.
+    Document,
+}
+
+impl Kind {
+    ghost use Rattle.std.specs.Prelude.{◌≡◌};
+    ghost use Rattle.policy_model.specs.Texts.{kind_text};
+    ghost use Rattle.authority_table.specs.Kind.{kind_of};
+
+    /// The word for it in lines: `execute`, `install` or `open`.
+    pub fn word(self) -> &'static [u8]
+        ensures { result.now ≡ kind_text (kind_of self) }
+    {
+        match self {
+            Kind::Execute => b"execute",
+            Kind::Install => b"install",
+            Kind::Document => b"open",
+        }
+    }
+}

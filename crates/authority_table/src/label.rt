@@ -1,0 +1,61 @@
+//! The name that a rule shows to an administrator.
+
+ghost use Rattle.std.specs.Prelude.{◌≤◌};
+ghost use Rattle.arrayvec.specs.ArrayVec.{array_vec_len};
+
+use arrayvec::ArrayVec;
+
+/// Up to 128 bytes of any kind, held in place.
+#[derive(Debug, Drop, PartialEq, Eq, Hash)]
+pub struct Label {
+    bytes: ArrayVec<u8, 128>,
+    pub ghost short: { array_vec_len bytes ≤ 128 },
+}
+
+impl Label {
+    ghost use Rattle.std.specs.Prelude.{◌≡◌, ◌≤◌, ◌↔◌, length, IsSome, IfSome, []};
+    ghost use Rattle.authority_table.specs.Label.{label_bytes};
+
+    /// The label of no bytes.
+    pub fn empty() -> Label
+        ensures { label_bytes result ≡ [] }
+    {
+        Label {
+            bytes: ArrayVec::new(),
+        }
+    }
+
+    pub fn of(bytes: &[u8]) -> Option<Label>
+        ensures fits { IsSome result ↔ (length bytes.now ≤ 128) }
+        ensures bytes { IfSome result (λ label. label_bytes label ≡ bytes.now) }
+    {
+        if bytes.len() <= 128 {
+            Some(Label::held(bytes))
+        } else {
+            None
+        }
+    }
+
+    /// The same label, without memory.
+    pub fn copied(&self) -> Label
+        ensures { label_bytes result ≡ label_bytes self.now }
+    {
+        Label::held(self.as_slice())
+    }
+
+    pub fn as_slice(&self) -> &[u8]
+        ensures bytes { result.now ≡ label_bytes self.now }
+        ensures short { length result.now ≤ 128 }
+    {
+        self.bytes.as_slice()
+    }
+
+    fn held(bytes: &[u8]) -> Label
+        requires { length bytes.now ≤ 128 }
+        ensures { label_bytes result ≡ bytes.now }
+    {
+        let mut held = ArrayVec::new();
+        let _ = held.try_extend_from_slice(bytes);
+        Label { bytes: held }
+    }
+}

@@ -1,0 +1,22 @@
+//! The rules of the desk, and which of them decides.
+#![tactic(auto)]
+
+mod found;
+mod kind;
+mod label;
+mod moment;
+mod priority;
+mod rank;
+mod rule;
+mod rule_id;
+mod table;
+
+pub use found::Found;
+pub use kind::Kind;
+pub use label::Label;
+pub use moment::Moment;
+pub use priority::Priority;
+pub use rank::Rank;
+pub use rule::Rule;
+pub use rule_id::RuleId;
+pub use table::Table;

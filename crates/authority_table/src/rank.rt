@@ -1,0 +1,26 @@
+//! Which of two rules is tried first.
+
+ghost use Rattle.std.specs.Prelude.{◌↔◌, IsTrue};
+ghost use Rattle.policy_model.specs.Rules.{Before};
+
+use crate::priority::Priority;
+use crate::rule_id::RuleId;
+
+/// A rule's place among the rules.
+#[derive(Clone, Copy, Debug, Drop, PartialEq, Eq, Hash)]
+pub struct Rank {
+    pub priority: Priority,
+    pub id: RuleId,
+}
+
+impl Rank {
+    ghost use Rattle.authority_table.specs.Rank.{rank_of};
+
+    /// Whether a rule of this rank is tried before one of the other: the higher priority comes
+    /// first, and at equal priorities the lesser number.
+    pub fn before(&self, other: &Rank) -> bool
+        ensures { IsTrue result ↔ Before (rank_of self.now) (rank_of other.now) }
+    {
+        self.priority > other.priority || (self.priority == other.priority && self.id < other.id)
+    }
+}

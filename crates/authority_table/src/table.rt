@@ -1,0 +1,87 @@
+//! The list of all rules, in the order in which they were added.
+
+ghost use Rattle.std.specs.Prelude.{◌≡◌, ◌<◌, ◌≤◌, ◌↔◌, [], ◌∷◌, ◌++◌, length, IsTrue, OnOk, OnErr};
+ghost use Rattle.req_tree.specs.Facts.{no_facts};
+ghost use Rattle.req_tree.specs.Subject.{subject_of};
+ghost use Rattle.authority_table.specs.Kind.{kind_of};
+
+use crate::found::Found;
+use crate::kind::Kind;
+use crate::moment::Moment;
+use crate::rule::Rule;
+use req_tree::Subject;
+use std::alloc::{AllocError, Global};
+use std::marker::Model;
+
+/// Up to 10,000 rules.
+#[derive(Drop)]
+pub struct Table {
+    rules: Vec<Rule>,
+}
+
+impl Model for Table {
+    ghost use Rattle.std.specs.Prelude.{List, ◌≤◌, length};
+    ghost use Rattle.std.specs.Coded.{coded_list};
+    ghost use Rattle.authority_table.specs.declared.rule.Rule.{Rule};
+    ghost use Rattle.authority_table.specs.contracts.rule.Rule as rule_contract;
+
+    ghost Value = { List Rule };
+
+    ghost coded = { coded_list rule_contract.the_row.coded };
+
+    ghost view = { λ t. t.rules.items };
+
+    ghost invariant = { λ t. length t.rules.items ≤ 10000 };
+}
+
+impl Table {
+    ghost use Rattle.authority_table.specs.Rule.{rows_of};
+    ghost use Rattle.authority_table.specs.Found.{IsFound};
+
+    pub const ROOM: usize = 10_000;
+
+    pub fn new(alloc: Global) -> Table
+        ensures { result ≡ [] }
+    {
+        Table {
+            rules: Vec::new(alloc),
+        }
+    }
+
+    pub fn count(&self) -> u32
+        ensures count { result ≡ length self.now }
+        ensures room { result ≤ 10000 }
+    {
+        self.rules.len() as u32
+    }
+
+    pub fn is_full(&self) -> bool
+        ensures { IsTrue result ↔ (length self.now ≡ 10000) }
+    {
+        self.rules.len() == Table::ROOM
+    }
+
+    /// Adds a rule behind all others; where there is no memory, the table is as before.
+    pub fn push(&mut self, rule: Rule) -> Result<(), AllocError>
+        requires { length self.old < 10000 }
+        ensures ok { OnOk result (self.new ≡ self.old ++ rule ∷ []) }
+        ensures err { OnErr result (self.new ≡ self.old) }
+    {
+        self.rules.push(rule)?;
+        Ok(())
+    }
+
+    /// The rule that governs an assessment of the subject, and the latent one: one look at each rule.
+    pub fn find(&self, kind: Kind, subject: &Subject, at: Moment) -> Found<'_>
+        ensures { IsFound (rows_of self.now) (kind_of kind) (subject_of subject.now) no_facts at result }
+    {
+        let mut found = Found {
+            governing: None,
+            latent: None,
+        };
+        for rule in &self.rules {
+            found = found.with(rule, kind, subject, at);
+        }
+        found
+    }
+}
