@@ -1,0 +1,12 @@
+use Rattle.std.proofs.Common.{◌-◌, ◌≤◌}
+use Rattle.line_reader.specs.Reading.{held, stream, IsPart}
+use Rattle.line_reader.proofs.reader.LineReader.next_line.Given as goal
+
+abbrev pub invariant-loop-self : goal.invariant-loop-self
+invariant-loop-self g l = record {
+  part : IsPart (stream l.fn.self (g.S.Source.left l.fn.source)) (stream l.self (g.S.Source.left l.source)) (held l.self);
+  later : g.S.Source.faults l.fn.source ≤ g.S.Source.faults l.source;
+}
+
+abbrev pub decreases-loop-self : goal.decreases-loop-self
+decreases-loop-self g l = 268435456 - l.self.bytes

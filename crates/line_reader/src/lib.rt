@@ -1,0 +1,10 @@
+//! A source cut into lines: read in pieces, with a bounded front of each line held.
+#![tactic(auto)]
+
+mod find;
+mod held_line;
+mod line_read;
+mod reader;
+
+pub use line_read::LineRead;
+pub use reader::LineReader;

@@ -1,0 +1,205 @@
+-- How a session ends.
+use Rattle.std.proofs.Common.{◌≡◌, ◌≢◌, ℕ, zero, suc, ◌+◌, ◌<◌, ◌≤◌, ◌⊎◌, inl, inr, List, [], ◌∷◌, ◌++◌, Option, None, Some, length, take, refl, sym, ap, ◌∙◌, subst, append_assoc, append-nil, lit<, arith}
+use Rattle.std.proofs.KnownBytes.{Appends-nil, Appends-trans, Consumes-nil, Consumes-trans}
+use Rattle.std.specs.Io.KnownBytes.{Appends, Consumes, IsAtEnd, prepend_known}
+use Rattle.line_reader.specs.Lines.{lines_of, text_of, with_lf}
+use Rattle.line_reader.specs.Limits.{IsWithin, RunsPast}
+use Rattle.line_reader.specs.Reading.{Stream, IsLine, IsPart, IsSpent, pending, stream}
+use Rattle.line_reader.specs.declared.reader.LineReader.{LineReader}
+use Rattle.line_reader.proofs.LinesLemmas.{lines_of-text, lines_of-last, whole_more, text_of-more}
+use Rattle.line_reader.proofs.LimitsLemmas.{not_both, RunsPast-append, within_part, past_limit, all_within}
+use Rattle.line_session.specs.Ends.{EndsFine, StopsBefore, BreaksOff, AtReadFault, AtLimit, AtWant}
+use Rattle.line_session.specs.Replies.{IsReplied}
+use Rattle.line_session.specs.declared.reply.Reply.TheVariants.{Whole, Broken, Unanswered}
+use Rattle.line_session.specs.Turns.{IsGoing}
+use Rattle.line_session.proofs.KnownLemmas.{lost_behind, end_left, lost_at_end, put_kept}
+
+-- the replies and a front of one more
+broken_put : (first old new : Option (List ℕ)) (replies : List (List ℕ)) (reply : List ℕ) (count : ℕ) → Appends first old (text_of replies) → Appends old new (take count (with_lf reply))
+    → Appends first new (text_of replies ++ take count (with_lf reply))
+broken_put first old new replies reply count h k = Appends-trans first old new (text_of replies) (take count (with_lf reply)) h k
+
+-- what is held of a line is some of it
+some_held : (n : ℕ) (held bytes : List ℕ) → held ≡ take n bytes → held ≢ [] → 0 < length bytes
+some_held zero held [] h some = absurd (some h)
+some_held (suc n) held [] h some = absurd (some h)
+some_held n held (byte ∷ bytes) h some = omega arith
+
+-- and none only of none
+none_held : (n : ℕ) (held bytes : List ℕ) → 0 < n → held ≡ take n bytes → held ≡ [] → bytes ≡ []
+none_held n held [] lt h none = refl
+none_held zero held (byte ∷ bytes) lt h none = absurd (omega arith)
+none_held (suc n) held (byte ∷ bytes) lt h none = cc
+
+-- a session that couldn't begin
+pub stops_at_once : (A : List (List ℕ) → List (List ℕ) → Type 0) (left first : Option (List ℕ)) → A [] [] → StopsBefore AtWant A left left first first
+stops_at_once A left first a = record {
+  lines = [];
+  rest = [];
+  replies = [];
+  taken = Consumes-nil left;
+  whole = λ k d h. absurd (omega arith);
+  why = tt;
+  put = Appends-nil first;
+  answered = a;
+}
+
+-- bytes that run past the limits are no told session within them
+pub too_long : (A : List (List ℕ) → List (List ℕ) → Type 0) (left now written sent : Option (List ℕ)) (bytes : List ℕ) → left ≡ Some bytes → StopsBefore AtLimit A left now written sent → IsWithin bytes → ⊥
+too_long A None now written sent bytes told stops within = cc
+too_long A (Some us) None written sent bytes told stops within = absurd stops.taken
+too_long A (Some us) (Some vs) written sent bytes told stops within =
+    let same : us ≡ bytes = cc in
+    not_both bytes within (subst RunsPast (sym stops.taken ∙ same) (RunsPast-append (text_of stops.lines ++ stops.rest) vs stops.why.0))
+
+-- a told session that was read to its end is within them
+pub read_within : (A : List (List ℕ) → List (List ℕ) → Type 0) (left now written sent : Option (List ℕ)) (bytes : List ℕ) → left ≡ Some bytes → EndsFine A left now written sent → RunsPast bytes → ⊥
+read_within A None now written sent bytes told ends past = cc
+read_within A (Some us) None written sent bytes told ends past = absurd ends.taken
+read_within A (Some us) (Some vs) written sent bytes told ends past =
+    let same : us ≡ bytes = cc in
+    let all : ends.bytes ≡ bytes = sym (append-nil ends.bytes) ∙ ap (λ l. ends.bytes ++ l) (sym ends.at_end) ∙ sym ends.taken ∙ same in
+    not_both bytes (subst IsWithin all ends.within) past
+
+module _ (A B : List (List ℕ) → List (List ℕ) → Type 0) (start left first old new : Option (List ℕ)) (s : Stream) (r : LineReader) (held : List ℕ) (going : IsGoing A start s first old) where
+  -- a line and its LF were lost, and what is pending behind them
+  line_lost : (line : IsLine s (stream r left) held) → Consumes start left (text_of going.lines ++ (line.bytes ++ 10 ∷ pending r))
+  line_lost line =
+      subst (Consumes start left)
+      (append_assoc (text_of going.lines) (with_lf line.bytes) (pending r) ∙ ap (λ l. text_of going.lines ++ l) (append_assoc line.bytes (10 ∷ []) (pending r)))
+      (lost_behind start left (text_of going.lines ++ with_lf line.bytes) (pending r)
+      (Consumes-trans start s.unread (prepend_known (pending r) left) (text_of going.lines) (with_lf line.bytes) going.taken line.taken))
+
+  -- a part of a line was lost, and what is pending behind it
+  part_lost : (part : IsPart s (stream r left) held) → Consumes start left ((text_of going.lines ++ part.bytes) ++ pending r)
+  part_lost part =
+      lost_behind start left (text_of going.lines ++ part.bytes) (pending r)
+      (Consumes-trans start s.unread (prepend_known (pending r) left) (text_of going.lines) part.bytes going.taken part.taken)
+
+  -- a last line was lost
+  last_lost : (part : IsPart s (stream r left) held) → IsAtEnd (prepend_known (pending r) left) → Consumes start left (text_of going.lines ++ part.bytes)
+  last_lost part end =
+      lost_at_end start left (text_of going.lines ++ part.bytes) (pending r)
+      (Consumes-trans start s.unread (prepend_known (pending r) left) (text_of going.lines) part.bytes going.taken part.taken) end
+
+  -- what was handed on is within the limits
+  handed_within : (part : IsPart s (stream r left) held) → r.lines ≤ 1000000 → r.bytes ≤ 268435456 → IsWithin (text_of going.lines ++ part.bytes)
+  handed_within part most size =
+      within_part going.lines part.bytes going.whole part.no_lf (grind (arith, most, part.lines, going.number)) (λ some. grind (arith, part.begun some, going.number))
+      (grind (arith, size, part.size, going.size))
+
+  -- a line's reply isn't whole
+  pub line_broken : (line : IsLine s (stream r left) held) → IsReplied B old new line.bytes going.lines going.replies Broken → BreaksOff B start left first new
+  line_broken line replied = record {
+    lines = going.lines;
+    line = line.bytes;
+    rest = 10 ∷ pending r;
+    replies = going.replies;
+    reply = replied.0;
+    count = replied.1;
+    taken = line_lost line;
+    whole = whole_more going.lines line.bytes going.whole line.no_lf;
+    ended = refl;
+    put = broken_put first old new going.replies replied.0 replied.1 going.put replied.2;
+    answered = replied.3;
+  }
+
+  -- a line wasn't answered
+  pub line_unanswered : (line : IsLine s (stream r left) held) → IsReplied B old new line.bytes going.lines going.replies Unanswered → StopsBefore AtWant B start left first new
+  line_unanswered line replied = record {
+    lines = going.lines;
+    rest = line.bytes ++ 10 ∷ pending r;
+    replies = going.replies;
+    taken = line_lost line;
+    whole = going.whole;
+    why = tt;
+    put = put_kept first old new (text_of going.replies) going.put replied.0;
+    answered = replied.1;
+  }
+
+  -- a last line was answered
+  pub last_fine : (part : IsPart s (stream r left) held) → held ≢ [] → IsAtEnd (prepend_known (pending r) left) → r.lines ≤ 1000000 → r.bytes ≤ 268435456
+      → IsReplied B old new part.bytes going.lines going.replies Whole → EndsFine B start left first new
+  last_fine part some end most size replied = record {
+    bytes = text_of going.lines ++ part.bytes;
+    replies = going.replies ++ replied.0 ∷ [];
+    taken = last_lost part end;
+    at_end = end_left left (pending r) end;
+    within = handed_within part most size;
+    put = subst (Appends first new) (sym (text_of-more going.replies replied.0)) (Appends-trans first old new (text_of going.replies) (with_lf replied.0) going.put replied.1);
+    answered = subst (λ (l : List (List ℕ)). B l (going.replies ++ replied.0 ∷ []))
+        (sym (lines_of-text going.lines part.bytes going.whole
+        ∙ ap (λ l. going.lines ++ l) (lines_of-last part.bytes (some_held 8193 held part.bytes part.front some) part.no_lf)))
+        replied.2;
+  }
+
+  pub last_broken : (part : IsPart s (stream r left) held) → IsAtEnd (prepend_known (pending r) left) → IsReplied B old new part.bytes going.lines going.replies Broken → BreaksOff B start left first new
+  last_broken part end replied = record {
+    lines = going.lines;
+    line = part.bytes;
+    rest = [];
+    replies = going.replies;
+    reply = replied.0;
+    count = replied.1;
+    taken = subst (λ (l : List ℕ). Consumes start left (text_of going.lines ++ l)) (sym (append-nil part.bytes)) (last_lost part end);
+    whole = whole_more going.lines part.bytes going.whole part.no_lf;
+    ended = end_left left (pending r) end;
+    put = broken_put first old new going.replies replied.0 replied.1 going.put replied.2;
+    answered = replied.3;
+  }
+
+  pub last_unanswered : (part : IsPart s (stream r left) held) → IsAtEnd (prepend_known (pending r) left) → IsReplied B old new part.bytes going.lines going.replies Unanswered → StopsBefore AtWant B start left first new
+  last_unanswered part end replied = record {
+    lines = going.lines;
+    rest = part.bytes;
+    replies = going.replies;
+    taken = last_lost part end;
+    whole = going.whole;
+    why = tt;
+    put = put_kept first old new (text_of going.replies) going.put replied.0;
+    answered = replied.1;
+  }
+
+  -- the source is at its end
+  pub at_end : (part : IsPart s (stream r left) held) → held ≡ [] → IsAtEnd (prepend_known (pending r) left) → r.lines ≤ 1000000 → r.bytes ≤ 268435456 → EndsFine A start left first old
+  at_end part none end most size =
+      let empty : part.bytes ≡ [] = none_held 8193 held part.bytes (lit< tt) part.front none in
+      record {
+        bytes = text_of going.lines ++ part.bytes;
+        replies = going.replies;
+        taken = last_lost part end;
+        at_end = end_left left (pending r) end;
+        within = handed_within part most size;
+        put = going.put;
+        answered = subst (λ (l : List (List ℕ)). A l going.replies)
+            (sym (lines_of-text going.lines part.bytes going.whole ∙ ap (λ l. going.lines ++ lines_of l) empty ∙ append-nil going.lines)) going.answered;
+      }
+
+  -- the limits were passed
+  pub at_limit : (part : IsPart s (stream r left) held) → IsSpent (stream r left) → 0 < length (pending r) → StopsBefore AtLimit A start left first old
+  at_limit part spent some =
+      let full : (length going.lines ≡ 1000000) ⊎ (length (text_of going.lines) + length part.bytes ≡ 268435456) =
+      elim spent [ inl number ↦ inl (grind (arith, number, part.lines, going.number)) | inr size ↦ inr (grind (arith, size, part.size, going.size)) ] in
+      record {
+        lines = going.lines;
+        rest = part.bytes ++ pending r;
+        replies = going.replies;
+        taken = subst (Consumes start left) (append_assoc (text_of going.lines) part.bytes (pending r)) (part_lost part);
+        whole = going.whole;
+        why = (past_limit going.lines part.bytes (pending r) going.whole some full, all_within going.lines part.bytes (pending r) part.no_lf full);
+        put = going.put;
+        answered = going.answered;
+      }
+
+  -- the source failed
+  pub at_fault : (part : IsPart s (stream r left) held) → pending r ≡ [] → r.lines ≤ 1000000 → r.bytes ≤ 268435456 → StopsBefore AtReadFault A start left first old
+  at_fault part none most size = record {
+    lines = going.lines;
+    rest = part.bytes;
+    replies = going.replies;
+    taken = subst (Consumes start left) (ap (λ l. (text_of going.lines ++ part.bytes) ++ l) none ∙ append-nil (text_of going.lines ++ part.bytes)) (part_lost part);
+    whole = going.whole;
+    why = (part.no_lf, handed_within part most size);
+    put = going.put;
+    answered = going.answered;
+  }

@@ -1,0 +1,14 @@
+use Rattle.std.proofs.Common.{◌-◌, ◌≤◌}
+use Rattle.line_reader.specs.Reading.{stream}
+use Rattle.line_session.specs.Turns.{IsGoing}
+use Rattle.line_session.proofs.session.all_lines.Given as goal
+
+abbrev pub invariant-loop-ended : goal.invariant-loop-ended
+invariant-loop-ended g l = record {
+  going : IsGoing (g.R.Responder.answered l.responder) (g.S.Source.left l.fn.input) (stream l.reader (g.S.Source.left l.input)) (g.W.Sink.written l.fn.output) (g.W.Sink.written l.output);
+  input_later : g.S.Source.faults l.fn.input ≤ g.S.Source.faults l.input;
+  output_later : g.W.Sink.faults l.fn.output ≤ g.W.Sink.faults l.output;
+}
+
+abbrev pub decreases-loop-ended : goal.decreases-loop-ended
+decreases-loop-ended g l = 1000000 - l.reader.lines

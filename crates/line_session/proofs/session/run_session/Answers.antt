@@ -1,0 +1,26 @@
+use Rattle.line_session.proofs.EndLemmas.{stops_at_once, too_long, read_within}
+use Rattle.line_session.proofs.session.run_session.Goals as goal
+
+pub returns-in-Ok-clause-fine : goal.returns-in-Ok-clause-fine
+returns-in-Ok-clause-fine g c = λ is. rw is at c.all_lines.ensures.ends
+
+pub returns-in-Ok-clause-read_fault : goal.returns-in-Ok-clause-read_fault
+returns-in-Ok-clause-read_fault g c = λ is. rw is at c.all_lines.ensures.ends
+
+pub returns-in-Ok-clause-too_long : goal.returns-in-Ok-clause-too_long
+returns-in-Ok-clause-too_long g c = λ is. rw is at c.all_lines.ensures.ends
+
+pub returns-in-Ok-clause-out_of_memory : goal.returns-in-Ok-clause-out_of_memory
+returns-in-Ok-clause-out_of_memory g c = λ is. rw is at c.all_lines.ensures.ends
+
+pub returns-in-Ok-clause-write_fault : goal.returns-in-Ok-clause-write_fault
+returns-in-Ok-clause-write_fault g c = λ is. rw is at c.all_lines.ensures.ends
+
+pub returns-in-Ok-clause-within : goal.returns-in-Ok-clause-within
+returns-in-Ok-clause-within g c = λ bytes told within is. too_long _ _ _ _ _ bytes told (rw is at c.all_lines.ensures.ends) within
+
+pub returns-in-Ok-clause-past : goal.returns-in-Ok-clause-past
+returns-in-Ok-clause-past g c = λ bytes told past is. read_within _ _ _ _ _ bytes told (rw is at c.all_lines.ensures.ends) past
+
+pub returns-in-Err-clause-out_of_memory : goal.returns-in-Err-clause-out_of_memory
+returns-in-Err-clause-out_of_memory g c = λ is. stops_at_once _ _ _ c.requires

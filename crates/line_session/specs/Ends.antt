@@ -1,0 +1,57 @@
+-- What a session has read, answered and written when it ends. This project's own.
+use Rattle.std.specs.Prelude.{◌≡◌, ℕ, ◌-◌, ◌⊎◌, List, [], ◌∷◌, ◌++◌, Option, All, length, take, ⊤}
+use Rattle.std.specs.Io.KnownBytes.{Appends, Consumes, IsAtEnd}
+use Rattle.line_reader.specs.Lines.{lines_of, text_of, with_lf, HasNoLf}
+use Rattle.line_reader.specs.Limits.{IsWithin, RunsPast}
+
+-- the whole input was read, and the replies to its lines were written, each with its LF
+pub record EndsFine (Answered : List (List ℕ) → List (List ℕ) → Type 0) (left now written sent : Option (List ℕ)) : Type 0 where
+  pub bytes : List ℕ
+  pub replies : List (List ℕ)
+  pub taken : Consumes left now bytes
+  pub at_end : IsAtEnd now
+  pub within : IsWithin bytes
+  pub put : Appends written sent (text_of replies)
+  pub answered : Answered (lines_of bytes) replies
+
+-- whole lines were read and answered, and more bytes were read that weren't; just the replies were written
+pub record StopsBefore (Why : List (List ℕ) → List ℕ → Type 0) (Answered : List (List ℕ) → List (List ℕ) → Type 0) (left now written sent : Option (List ℕ)) : Type 0 where
+  pub lines : List (List ℕ)
+  pub rest : List ℕ
+  pub replies : List (List ℕ)
+  pub taken : Consumes left now (text_of lines ++ rest)
+  pub whole : All HasNoLf lines
+  pub why : Why lines rest
+  pub put : Appends written sent (text_of replies)
+  pub answered : Answered lines replies
+
+-- where the source failed every whole line was answered, and the limits weren't passed
+abbrev pub AtReadFault : List (List ℕ) → List ℕ → Type 0
+AtReadFault lines rest = HasNoLf rest × IsWithin (text_of lines ++ rest)
+
+-- where the limits were passed every whole line within them was answered
+abbrev pub AtLimit : List (List ℕ) → List ℕ → Type 0
+AtLimit lines rest = RunsPast (text_of lines ++ rest) × ((length lines ≡ 1000000) ⊎ HasNoLf (take (268435456 - length (text_of lines)) rest))
+
+-- want of memory comes anywhere
+abbrev pub AtWant : List (List ℕ) → List ℕ → Type 0
+AtWant lines rest = ⊤
+
+-- what stands behind a line: its LF, or nothing at the end
+abbrev pub EndsLine : List ℕ → Option (List ℕ) → Type 0
+EndsLine [] now = IsAtEnd now
+EndsLine (byte ∷ rest) now = byte ≡ 10
+
+-- all lines up to one were read and answered; of the last reply a front was written, the others whole
+pub record BreaksOff (Answered : List (List ℕ) → List (List ℕ) → Type 0) (left now written sent : Option (List ℕ)) : Type 0 where
+  pub lines : List (List ℕ)
+  pub line : List ℕ
+  pub rest : List ℕ
+  pub replies : List (List ℕ)
+  pub reply : List ℕ
+  pub count : ℕ
+  pub taken : Consumes left now (text_of lines ++ (line ++ rest))
+  pub whole : All HasNoLf (lines ++ line ∷ [])
+  pub ended : EndsLine rest now
+  pub put : Appends written sent (text_of replies ++ take count (with_lf reply))
+  pub answered : Answered (lines ++ line ∷ []) (replies ++ reply ∷ [])

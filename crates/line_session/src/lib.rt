@@ -1,0 +1,11 @@
+//! A session: each line of a source is answered by one line into a sink.
+#![tactic(auto)]
+
+mod ended;
+mod reply;
+mod responder;
+mod session;
+
+pub use ended::Ended;
+pub use responder::Responder;
+pub use session::run_session;

@@ -1,0 +1,62 @@
+//! One line's reply.
+
+ghost use Rattle.std.specs.Prelude.{◌≡◌, ◌≤◌, ℕ, List, [], ◌∷◌, ◌++◌, length, take};
+ghost use Rattle.req_tree.specs.LineText.{line_bytes};
+ghost use Rattle.gk_io.specs.Faults.{Rose};
+ghost use Rattle.line_session.specs.Replies.{IsReplied, IsWritten};
+
+use crate::responder::Responder;
+use gk_io::{Failed, Sink};
+use req_tree::LineText;
+use std::alloc::{AllocError, Global};
+
+/// What became of one line's reply.
+#[derive(Clone, Copy, Debug, PartialEq, Eq)]
+pub enum Reply {
+    /// It was written with its LF, and flushed.
+    Whole,
+    /// The line was answered, and the sink failed.
+    Broken,
+    /// Memory was wanting, and the line wasn't answered.
+    Unanswered,
+}
+
+/// Answers a line, and writes the reply with its LF at once.
+pub fn reply_to<R: Responder, W: Sink>(
+    alloc: Global,
+    responder: &mut R,
+    line: &[u8],
+    text: &mut LineText,
+    output: &mut W,
+) -> Reply
+    ensures replied { (whole : List ℕ) (lines replies : List (List ℕ))
+        → line.now ≡ take 8193 whole → R.answered responder.old lines replies
+        → IsReplied (R.answered responder.new) (W.written output.old) (W.written output.new)
+        whole lines replies result }
+    ensures later { W.faults output.old ≤ W.faults output.new }
+    ensures cause { result ≡ Reply.Broken → Rose (W.faults output.old) (W.faults output.new) }
+{
+    text.clear();
+    match responder.answer(alloc, line, text) {
+        Ok(()) => write_line(text, output),
+        Err(AllocError) => Reply::Unanswered,
+    }
+}
+
+// Writes the text with an LF in one call, and flushes it.
+fn write_line<W: Sink>(text: &mut LineText, output: &mut W) -> Reply
+    requires { length (line_bytes text.old) ≤ 1000 }
+    ensures written { IsWritten (W.written output.old) (W.written output.new) (line_bytes text.old) result }
+    ensures later { W.faults output.old ≤ W.faults output.new }
+    ensures cause { result ≡ Reply.Broken → Rose (W.faults output.old) (W.faults output.new) }
+{
+    text.push(b'\n');
+    match output.put(text.as_slice()) {
+        Ok(()) => {}
+        Err(Failed) => return Reply::Broken,
+    }
+    match output.flush() {
+        Ok(()) => Reply::Whole,
+        Err(Failed) => Reply::Broken,
+    }
+}

@@ -1,0 +1,118 @@
+//! The loop over the lines of a session.
+
+ghost use Rattle.std.specs.Prelude.{◌≡◌, ◌≢◌, ◌<◌, ◌≤◌, ℕ, List, [], Option, Some, None, IfNone};
+ghost use Rattle.gk_io.specs.Faults.{Rose};
+ghost use Rattle.line_reader.specs.Limits.{IsWithin, RunsPast};
+ghost use Rattle.line_reader.specs.Reading.{pending, stream, lines_handed, bytes_handed};
+ghost use Rattle.line_session.specs.Ends.{EndsFine, StopsBefore, BreaksOff, AtReadFault, AtLimit, AtWant};
+ghost use Rattle.line_session.specs.Turns.{IsGoing, IsEnd, IsTurn};
+
+use crate::ended::Ended;
+use crate::reply::{Reply, reply_to};
+use crate::responder::Responder;
+use gk_io::{Failed, Sink, Source};
+use line_reader::{LineRead, LineReader};
+use req_tree::LineText;
+use std::alloc::Global;
+
+/// Answers the source's lines in order, each by one line into the sink, until the source's end, a fault, the
+/// limits of a session or want of memory.
+pub fn run_session<R: Responder, S: Source, W: Sink>(
+    alloc: Global,
+    responder: &mut R,
+    input: &mut S,
+    output: &mut W,
+) -> Ended
+    requires { R.answered responder.old [] [] }
+
+    // What was read, answered and written, by the end.
+    ensures fine { result ≡ Ended.Fine → EndsFine (R.answered responder.new)
+        (S.left input.old) (S.left input.new) (W.written output.old) (W.written output.new) }
+    ensures read_fault { result ≡ Ended.ReadFault → StopsBefore AtReadFault (R.answered responder.new)
+        (S.left input.old) (S.left input.new) (W.written output.old) (W.written output.new) }
+    ensures too_long { result ≡ Ended.TooLong → StopsBefore AtLimit (R.answered responder.new)
+        (S.left input.old) (S.left input.new) (W.written output.old) (W.written output.new) }
+    ensures out_of_memory { result ≡ Ended.OutOfMemory → StopsBefore AtWant (R.answered responder.new)
+        (S.left input.old) (S.left input.new) (W.written output.old) (W.written output.new) }
+    ensures write_fault { result ≡ Ended.WriteFault → BreaksOff (R.answered responder.new)
+        (S.left input.old) (S.left input.new) (W.written output.old) (W.written output.new) }
+
+    // The causes. A session whose bytes are told ends by its limits only where they run past them, and is fine
+    // only where they don't.
+    ensures read_cause { result ≡ Ended.ReadFault → Rose (S.faults input.old) (S.faults input.new) }
+    ensures write_cause { result ≡ Ended.WriteFault → Rose (W.faults output.old) (W.faults output.new) }
+    ensures within { (bytes : List ℕ) → S.left input.old ≡ Some bytes → IsWithin bytes → result ≢ Ended.TooLong }
+    ensures past { (bytes : List ℕ) → S.left input.old ≡ Some bytes → RunsPast bytes → result ≢ Ended.Fine }
+
+    ensures input_later { S.faults input.old ≤ S.faults input.new }
+    ensures output_later { W.faults output.old ≤ W.faults output.new }
+{
+    match LineReader::new(alloc) {
+        Ok(mut reader) => all_lines(alloc, &mut reader, responder, input, output),
+        Err(_) => Ended::OutOfMemory,
+    }
+}
+
+// All lines, from a reader that handed on nothing yet.
+fn all_lines<R: Responder, S: Source, W: Sink>(
+    alloc: Global,
+    reader: &mut LineReader,
+    responder: &mut R,
+    input: &mut S,
+    output: &mut W,
+) -> Ended
+    requires pending { pending reader.old ≡ [] }
+    requires lines { lines_handed reader.old ≡ 0 }
+    requires bytes { bytes_handed reader.old ≡ 0 }
+    requires answered { R.answered responder.old [] [] }
+    ensures ends { IsEnd (R.answered responder.new)
+        (S.left input.old) (S.left input.new) (W.written output.old) (W.written output.new) result }
+    ensures read_cause { result ≡ Ended.ReadFault → Rose (S.faults input.old) (S.faults input.new) }
+    ensures write_cause { result ≡ Ended.WriteFault → Rose (W.faults output.old) (W.faults output.new) }
+    ensures input_later { S.faults input.old ≤ S.faults input.new }
+    ensures output_later { W.faults output.old ≤ W.faults output.new }
+{
+    let mut text = LineText::new();
+    loop {
+        if let Some(ended) = turn(alloc, reader, &mut text, responder, input, output) {
+            return ended;
+        }
+    }
+}
+
+// One line: none where the session goes on.
+fn turn<R: Responder, S: Source, W: Sink>(
+    alloc: Global,
+    reader: &mut LineReader,
+    text: &mut LineText,
+    responder: &mut R,
+    input: &mut S,
+    output: &mut W,
+) -> Option<Ended>
+    ensures goes { (start first : Option (List ℕ))
+        → IsGoing (R.answered responder.old) start (stream reader.old (S.left input.old)) first (W.written output.old)
+        → IsTurn (R.answered responder.new) start (S.left input.new) (stream reader.new (S.left input.new))
+        first (W.written output.new) result }
+    ensures counted { IfNone result (lines_handed reader.old < lines_handed reader.new) }
+    ensures lines { lines_handed reader.new ≤ 1000000 }
+    ensures read_cause { result ≡ Some Ended.ReadFault → Rose (S.faults input.old) (S.faults input.new) }
+    ensures write_cause { result ≡ Some Ended.WriteFault → Rose (W.faults output.old) (W.faults output.new) }
+    ensures input_later { S.faults input.old ≤ S.faults input.new }
+    ensures output_later { W.faults output.old ≤ W.faults output.new }
+{
+    match reader.next_line(input) {
+        Ok(LineRead::Line) => match reply_to(alloc, responder, reader.line(), text, output) {
+            Reply::Whole => None,
+            Reply::Broken => Some(Ended::WriteFault),
+            Reply::Unanswered => Some(Ended::OutOfMemory),
+        },
+        Ok(LineRead::Last) => match reply_to(alloc, responder, reader.line(), text, output) {
+            Reply::Whole => Some(Ended::Fine),
+            Reply::Broken => Some(Ended::WriteFault),
+            Reply::Unanswered => Some(Ended::OutOfMemory),
+        },
+        Ok(LineRead::End) => Some(Ended::Fine),
+        Ok(LineRead::TooLong) => Some(Ended::TooLong),
+        Err(Failed) => Some(Ended::ReadFault),
+    }
+}
