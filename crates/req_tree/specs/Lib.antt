@@ -6,3 +6,5 @@ pub mod NumericOrder
 pub mod Meaning
 pub mod LineText
 pub mod WordText
+pub mod Depth
+pub mod Normal

@@ -5,11 +5,13 @@
 mod bytes;
 mod hash;
 mod identifier;
+pub mod laws;
 mod line_text;
 mod matching;
 mod meaning;
 mod oid;
 mod req;
+mod shape;
 mod shared;
 mod subject;
 
@@ -20,5 +22,6 @@ pub use line_text::LineText;
 pub use matching::Match;
 pub use oid::Oid;
 pub use req::Req;
+pub use shape::{depth, is_spoken};
 pub use shared::SharedReq;
 pub use subject::Subject;

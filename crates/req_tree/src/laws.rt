@@ -1,0 +1,23 @@
+//! Laws over the definitions alone.
+
+ghost use Rattle.std.specs.Prelude.{◌≡◌};
+ghost use Rattle.req_tree.specs.Tree.{Tree};
+ghost use Rattle.req_tree.specs.Subject.{Subject};
+ghost use Rattle.req_tree.specs.Facts.{Facts};
+ghost use Rattle.req_tree.specs.Meaning.{mean};
+ghost use Rattle.req_tree.specs.Normal.{IsSpoken, normal};
+
+/// Each normal form is spoken.
+pub fn normal_forms_are_spoken()
+    ensures { (tree : Tree) → IsSpoken (normal tree) }
+{}
+
+/// A normal form means what its tree means, of whatever subject and facts.
+pub fn normal_forms_keep_the_meaning()
+    ensures { (tree : Tree) (subject : Subject) (facts : Facts) → mean (normal tree) subject facts ≡ mean tree subject facts }
+{}
+
+/// A spoken tree is its own normal form.
+pub fn spoken_trees_are_normal()
+    ensures { (tree : Tree) → IsSpoken tree → normal tree ≡ tree }
+{}
