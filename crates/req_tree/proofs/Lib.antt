@@ -1,1 +1,3 @@
 pub mod NormalLemmas
+pub mod OidNumbers
+pub mod OidTexts

@@ -8,3 +8,6 @@ pub mod LineText
 pub mod WordText
 pub mod Depth
 pub mod Normal
+pub mod Oid
+pub mod OidReading
+pub mod TreeSet

@@ -1,11 +1,12 @@
 //! Laws over the definitions alone.
 
-ghost use Rattle.std.specs.Prelude.{◌≡◌};
+ghost use Rattle.std.specs.Prelude.{◌≡◌, ℕ, List};
 ghost use Rattle.req_tree.specs.Tree.{Tree};
 ghost use Rattle.req_tree.specs.Subject.{Subject};
 ghost use Rattle.req_tree.specs.Facts.{Facts};
 ghost use Rattle.req_tree.specs.Meaning.{mean};
 ghost use Rattle.req_tree.specs.Normal.{IsSpoken, normal};
+ghost use Rattle.req_tree.specs.Oid.{IsOidText};
 
 /// Each normal form is spoken.
 pub fn normal_forms_are_spoken()
@@ -20,4 +21,14 @@ pub fn normal_forms_keep_the_meaning()
 /// A spoken tree is its own normal form.
 pub fn spoken_trees_are_normal()
     ensures { (tree : Tree) → IsSpoken tree → normal tree ≡ tree }
+{}
+
+/// A text is that of one object identifier at most.
+pub fn a_text_has_one_oid()
+    ensures { (text first second : List ℕ) → IsOidText first text → IsOidText second text → first ≡ second }
+{}
+
+/// An object identifier has one text at most. `oid_to_text` shows that it has one.
+pub fn an_oid_has_one_text()
+    ensures { (oid first second : List ℕ) → IsOidText oid first → IsOidText oid second → first ≡ second }
 {}

@@ -3,6 +3,7 @@
 #![tactic(auto)]
 
 mod bytes;
+mod fault;
 mod hash;
 mod identifier;
 pub mod laws;
@@ -10,18 +11,25 @@ mod line_text;
 mod matching;
 mod meaning;
 mod oid;
+mod oid_bytes;
+mod oid_text;
 mod req;
+mod set;
 mod shape;
 mod shared;
 mod subject;
 
 pub use bytes::Bytes;
+pub use fault::{OidBytesFault, OidFault};
 pub use hash::Hash20;
 pub use identifier::Identifier;
 pub use line_text::LineText;
 pub use matching::Match;
 pub use oid::Oid;
+pub use oid_bytes::oid_from_bytes;
+pub use oid_text::{oid_from_text, oid_to_text};
 pub use req::Req;
+pub use set::ReqSet;
 pub use shape::{depth, is_spoken};
 pub use shared::SharedReq;
 pub use subject::Subject;

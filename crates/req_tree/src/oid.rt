@@ -1,6 +1,7 @@
 //! Object identifiers, as their bytes.
 
 ghost use Rattle.std.specs.Prelude.{◌≡◌};
+ghost use Rattle.req_tree.specs.Oid.{IsOidBytes};
 
 use crate::bytes::Bytes;
 use std::hash::{Hash, Hasher};
@@ -14,15 +15,26 @@ pub struct Oid {
 
 impl Model for Oid {
     ghost use Rattle.std.specs.Prelude.{List, ℕ};
+    ghost use Rattle.req_tree.specs.Oid.{IsOidBytes};
 
     ghost Value = { List ℕ };
 
     ghost view = { λ oid. oid.bytes };
+
+    ghost invariant = { λ oid. IsOidBytes oid.bytes };
 }
 
 impl Oid {
+    pub(crate) fn held(bytes: Bytes) -> Oid
+        requires { IsOidBytes bytes }
+        ensures { result ≡ bytes }
+    {
+        Oid { bytes }
+    }
+
     pub fn as_slice(&self) -> &[u8]
-        ensures { result.now ≡ self.now }
+        ensures bytes { result.now ≡ self.now }
+        ensures oid { IsOidBytes self.now }
     {
         self.bytes.as_slice()
     }

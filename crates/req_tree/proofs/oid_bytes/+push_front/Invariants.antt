@@ -1,0 +1,4 @@
+use Rattle.req_tree.proofs.oid_bytes.+push_front.Given as goal
+
+abbrev pub decreases-push_front : goal.decreases-push_front
+decreases-push_front l = l.number

@@ -1,0 +1,14 @@
+use Rattle.std.proofs.Common.{length}
+use Rattle.req_tree.specs.Oid.{HasNumbers}
+use Rattle.req_tree.proofs.OidNumbers.{IsBytes}
+use Rattle.req_tree.proofs.oid_bytes.has_numbers.Given as goal
+
+abbrev pub invariant-loop-after : goal.invariant-loop-after
+invariant-loop-after l = record {
+  are : IsBytes l.rest;
+  to : HasNumbers l.bytes → HasNumbers l.rest;
+  back : HasNumbers l.rest → HasNumbers l.bytes;
+}
+
+abbrev pub decreases-loop-after : goal.decreases-loop-after
+decreases-loop-after l = length l.rest
