@@ -1,0 +1,36 @@
+use Rattle.std.proofs.Common.{rules, ◌≡◌, ℕ, ◌+◌, ◌%◌, ◌^◌, sym, subst, ◌∙◌, ap, Some, []}
+use Rattle.turn_lock.specs.declared.logged.View.{View}
+use Rattle.turn_lock.specs.Views.{HasAll, newborn, left_of, right_of, both_of}
+use Rattle.turn_lock.specs.Counts.{Counted, event_count}
+use Rattle.turn_lock.specs.Seats.{SameSeat, known}
+use Rattle.turn_lock.proofs.CountLemmas.{both_have, from_zero, two_total}
+use Rattle.turn_lock.proofs.counting.count_of_two.Goals as goal
+
+pub unreachable-requires : goal.unreachable-requires
+unreachable-requires g c =
+    let v : View ℕ ℕ = known c.in_two-counted.new.one in
+    let w : View ℕ ℕ = known c.in_two-counted.new.two in
+    let p : SameSeat (left_of (newborn 0)) v = search rules in
+    let q : SameSeat (right_of (newborn 0)) w = search rules in
+    let e : known c.join.new.seat ≡ both_of v w = search rules in
+    let whole = c.close.ensures.alone (subst HasAll (sym e) (both_have v w 0 p q)) in
+    cc (whole.1, c.in-Stuck.is)
+
+pub returns-in-Whole : goal.returns-in-Whole
+returns-in-Whole g c =
+    let v : View ℕ ℕ = known c.in_two-counted.new.one in
+    let w : View ℕ ℕ = known c.in_two-counted.new.two in
+    let times : ℕ = c.args.times in
+    let p : SameSeat (left_of (newborn 0)) v = search rules in
+    let q : SameSeat (right_of (newborn 0)) w = search rules in
+    let e : known c.join.new.seat ≡ both_of v w = search rules in
+    let whole = c.close.ensures.whole c.in-Whole.counter c.in-Whole.is in
+    let begun : (known c.join.new.seat).origin ≡ Some 0 = ap (λ (z : View ℕ ℕ). z.origin) e ∙ p.0 in
+    let zero_origin : whole.0 ≡ 0 = cc (whole.2, begun) in
+    let counted : Counted c.in-Whole.counter 0 whole.1 = subst (λ z. Counted c.in-Whole.counter z whole.1) zero_origin whole.3 in
+    let each = c.in_two-counted.ensures.counted c.if-counted.true in
+    let none : (known c.split-two.new.seat).own ≡ [] = search rules in
+    let none' : (known c.split-two.result).own ≡ [] = search rules in
+    let first : event_count v.own ≡ times = each.0 ∙ (ap (λ h. event_count h + times) none ∙ from_zero times) in
+    let second : event_count w.own ≡ times = each.1 ∙ (ap (λ h. event_count h + times) none' ∙ from_zero times) in
+    two_total c.in-Whole.counter whole.1 v w (known c.join.new.seat) p q e whole.4 counted ∙ ap (λ z. z % 2 ^ 64) (λ i. first i + second i)

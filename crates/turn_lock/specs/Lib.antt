@@ -1,0 +1,7 @@
+pub mod Turns
+pub mod Views
+pub mod Rule
+pub mod Steps
+pub mod Seats
+pub mod Lends
+pub mod Counts

@@ -1,0 +1,45 @@
+-- What callers know of a seat, and of one turn. This project's own.
+use Rattle.std.specs.Prelude.{◌≡◌, ℕ, true, false, List, [], ◌∷◌, ◌++◌, Option, Some, None}
+use mathlib.Core.List.{IsPrefix}
+use Rattle.atomic_table.specs.Seated.{TableId}
+use Rattle.atomic_table.specs.declared.shared.Seat as place
+use Rattle.turn_lock.specs.declared.logged.Turn.{Turn}
+use Rattle.turn_lock.specs.declared.logged.View.{View}
+use Rattle.turn_lock.specs.declared.seat.Seat.{Seat}
+use Rattle.turn_lock.specs.Turns.{turns_of}
+use Rattle.turn_lock.specs.Views.{blank, turn_of, Rests}
+
+module _ {O E : Type 0} where
+  abbrev pub first_of_views : List (View O E) → View O E
+  first_of_views [] = blank
+  first_of_views (v ∷ vs) = v
+
+  -- what the seat knows
+  abbrev pub known : Seat O E → View O E
+  known s = first_of_views s.badge.views
+
+  -- the seat knows just this
+  abbrev pub Knows : Seat O E → View O E → Type 0
+  Knows s v = s.badge.views ≡ v ∷ []
+
+  -- the seat is one of the lock with this name, has no ticket and no turn
+  abbrev pub IsReady : Seat O E → TableId → Type 0
+  IsReady s lock = (s.badge.table_id ≡ lock) × Knows s (known s) × Rests (known s) × ((o : O) × ((known s).origin ≡ Some o))
+
+  -- a turn that was begun: the value is out of the slot, and in hand
+  abbrev pub IsOut : {S : Type 0} → place.Seat (Option S) (View O E) → TableId → Type 0
+  IsOut s lock = (s.table_id ≡ lock) × (s.me.1 ≡ (0, None) ∷ []) × (s.me.0.gone ≡ false) × (s.me.0.holds ≡ true)
+
+  -- the seat that knew v has its turn: it has seen what it had seen, and on to the history that the value x stands for. Nothing else has changed
+  abbrev pub HasBegun : {S : Type 0} → (S → O → List (Turn E) → Type 0) → View O E → View O E → S → Type 0
+  HasBegun stands v w x = (t : ℕ) × (o : O) × (v.origin ≡ Some o) × (w ≡ record v { tickets = t ∷ []; holds = true; seen = w.seen }) × IsPrefix v.seen w.seen × (turns_of v.number w.seen ≡ v.own) × stands x o w.seen
+
+  -- one turn with these events, from v to w: the history goes on from what was seen and ends with the turn, the own list has the turn more, and nothing else has changed
+  pub record Turned (v w : View O E) (events : List E) : Type 0 where
+    pub seen : (between : List (Turn E)) × (w.seen ≡ (v.seen ++ between) ++ turn_of v events ∷ [])
+    pub own : w.own ≡ v.own ++ turn_of v events ∷ []
+    pub rest : w ≡ record v { seen = w.seen; own = w.own }
+
+  -- the same seat: of the same origin, with the same numbers
+  abbrev pub SameSeat : View O E → View O E → Type 0
+  SameSeat v w = (w.origin ≡ v.origin) × (w.number ≡ v.number) × (w.step ≡ v.step) × (w.kept ≡ v.kept)

@@ -1,0 +1,94 @@
+//! The smallest logged value: a count of the events of all turns, from where it began.
+ghost use Rattle.std.specs.Prelude.{◌≡◌, [], ◌∷◌, ◌++◌, ℕ, ◌+◌, Some, IfSome, IsTrue, OnOk, OnErr};
+ghost use Rattle.turn_lock.specs.Views.{Tallies, after, newborn, refused, turn_of};
+ghost use Rattle.turn_lock.specs.Seats.{IsOut, IsReady, Knows, SameSeat, Turned, known};
+ghost use Rattle.turn_lock.specs.Counts.{Counted, event_count};
+
+use crate::fault::Spent;
+use crate::held::Held;
+use crate::lock::TurnLock;
+use crate::logged::{Logged, Names};
+use crate::seat::Seat;
+use std::alloc::Global;
+use std::marker::Brand;
+use std::sync::Wait;
+
+#[derive(Drop)]
+pub struct Counter {
+    pub count: u64,
+}
+
+impl Logged for Counter {
+    ghost use Rattle.turn_lock.specs.Counts.{Counted};
+
+    type Origin = u64;
+
+    type Event = u64;
+
+    ghost stands = { λ c o turns. Counted c o turns };
+}
+
+impl Counter {
+    /// A lock over a count of nothing, and its first seat; none at want of memory.
+    pub fn locked(alloc: Global) -> Option<(TurnLock<Counter>, Seat<u64, u64>)>
+        ensures ready { IfSome result (λ made. IsReady made.1 made.0.table.shared.table_id) }
+        ensures seat { IfSome result (λ made. Knows made.1 (newborn 0)) }
+    {
+        TurnLock::new(alloc, Counter { count: 0 }).ok()
+    }
+}
+
+// Ends a turn of one event. The call picks N from it.
+fn finish<N: Names<u64>>(held: Held<'_, Counter>, event: u64)
+    requires out { IsOut held.inner held.lock.now.table.shared.table_id }
+    requires stands { (o : ℕ) × (held.inner.me.0.origin ≡ Some o) × Counted held.value o (held.inner.me.0.seen ++ turn_of held.inner.me.0 N.events ∷ []) }
+    requires picked { N.events ≡ event ∷ [] }
+    ensures ready { IsReady held.exit.1.0.now held.entry.lock.now.table.shared.table_id }
+    ensures after { Knows held.exit.1.0.now (after held.entry.inner.me.0 N.events) }
+    ensures tallies { Tallies (known held.exit.1.0.now) }
+{
+    let _ = event;
+    held.end::<N>();
+}
+
+/// Counts one event, in a turn of its own.
+#[tactic(auto, using(crate::proofs::TurnLemmas::turned, crate::proofs::TurnLemmas::turned_seat, crate::proofs::TurnLemmas::refused_seat))]
+pub fn bump<R: Wait>(
+    rt: &R,
+    lock: &TurnLock<Counter>,
+    seat: &mut Seat<u64, u64>,
+    event: u64,
+) -> Result<(), Spent>
+    requires ready { IsReady seat.old lock.now.table.shared.table_id }
+    ensures ready { IsReady seat.new lock.now.table.shared.table_id }
+    ensures turned { OnOk result (Turned (known seat.old) (known seat.new) (event ∷ [])) }
+    ensures spent { OnErr result (Knows seat.new (refused (known seat.old))) }
+    ensures seat { SameSeat (known seat.old) (known seat.new) }
+    ensures tallies { Tallies (known seat.new) }
+{
+    let mut held = seat.turn(rt, lock)?;
+    let value = held.value();
+    value.count = value.count.wrapping_add(1);
+    finish::<Brand>(held, event);
+    Ok(())
+}
+
+/// Counts that many events, each in a turn of its own. False if the tickets ran out.
+pub fn bump_times<R: Wait>(
+    rt: &R,
+    lock: &TurnLock<Counter>,
+    seat: &mut Seat<u64, u64>,
+    times: u64,
+) -> bool
+    requires ready { IsReady seat.old lock.now.table.shared.table_id }
+    ensures ready { IsReady seat.new lock.now.table.shared.table_id }
+    ensures seat { SameSeat (known seat.old) (known seat.new) }
+    ensures counted { IsTrue result → event_count (known seat.new).own ≡ event_count (known seat.old).own + times }
+{
+    for event in 0..times {
+        if bump(rt, lock, seat, event).is_err() {
+            return false;
+        }
+    }
+    true
+}

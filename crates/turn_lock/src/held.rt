@@ -1,0 +1,93 @@
+//! A turn, from its beginning to its end.
+ghost use Rattle.std.specs.Prelude.{◌≡◌, [], ◌∷◌, ◌++◌, Some, IfOk};
+ghost use Rattle.std.specs.Borrow.{sem, RestsIfErr};
+ghost use Rattle.turn_lock.specs.contracts.seat.Seat.{the_row};
+ghost use Rattle.turn_lock.specs.declared.logged.View.{View};
+ghost use Rattle.turn_lock.specs.Views.{Tallies, after, refused, turn_of};
+ghost use Rattle.turn_lock.specs.Seats.{HasBegun, IsOut, IsReady, Knows, Turned, known};
+ghost use Rattle.turn_lock.specs.Lends.{LendsValue};
+
+use crate::fault::Spent;
+use crate::lock::TurnLock;
+use crate::logged::{Logged, Names};
+use crate::plays::Place;
+use crate::seat::Seat;
+use crate::waiting::take_turn;
+use std::sync::Wait;
+
+/// A turn, with the value in hand. If it is dropped, no other seat has a turn ever after, and the
+/// lock can only be closed as stuck.
+#[derive(Drop)]
+pub struct Held<'a, T: Logged> {
+    pub lock: &'a TurnLock<T>,
+    pub seat: &'a mut Seat<T::Origin, T::Event>,
+    pub inner: Place<T>,
+    pub value: T,
+}
+
+impl<O, E> Seat<O, E> {
+    /// Waits for the seat's turn. `Spent` comes exactly where a load of this call found no ticket left: the seat
+    /// then knows of one more such load, and at a turn of none.
+    pub fn turn<'a, R: Wait, T: Logged<Origin = O, Event = E>>(
+        &'a mut self,
+        rt: &R,
+        lock: &'a TurnLock<T>,
+    ) -> Result<Held<'a, T>, Spent>
+        requires ready { IsReady self.old lock.now.table.shared.table_id }
+        ensures* refused { sem 𝓛 (RestsIfErr (the_row O.row E.row) self.entry (λ held. held.seat.ghost_name) result (λ last. Knows last (refused (known self.old)) × IsReady last lock.now.table.shared.table_id × Tallies (known last))) }
+        ensures same_reference { IfOk result (λ held. held.seat.ghost_name ≡ self.entry.ghost_name) }
+        ensures lock { IfOk result (λ held. held.lock.now ≡ lock.now) }
+        ensures out { IfOk result (λ held. IsOut held.inner lock.now.table.shared.table_id) }
+        ensures begun { IfOk result (λ held. HasBegun T.stands (known self.old) held.inner.me.0 held.value) }
+    {
+        let (inner, value) = take_turn(self, rt, lock)?;
+        Ok(Held::new(lock, self, inner, value))
+    }
+}
+
+impl<'a, T: Logged> Held<'a, T> {
+    fn new(
+        lock: &'a TurnLock<T>,
+        seat: &'a mut Seat<T::Origin, T::Event>,
+        inner: Place<T>,
+        value: T,
+    ) -> Held<'a, T>
+        ensures same_reference { result.seat.ghost_name ≡ seat.entry.ghost_name }
+        ensures same { (result.inner ≡ inner) × (result.value ≡ value) × (result.lock.now ≡ lock.now) }
+    {
+        Held {
+            lock,
+            seat,
+            inner,
+            value,
+        }
+    }
+
+    pub fn value(&mut self) -> &mut T
+        ensures* lends { sem 𝓛 (LendsValue T.row T.Origin.row T.Event.row T.Logged self.entry result) }
+        ensures same { result.now ≡ self.old.value }
+    {
+        &mut self.value
+    }
+
+    #[tactic(auto, using(crate::proofs::TurnLemmas::ready, crate::proofs::TurnLemmas::tallies_known))]
+    /// Puts the value back, and ends the turn with the events that the call names.
+    pub fn end<N: Names<T::Event>>(self)
+        requires out { IsOut self.inner self.lock.now.table.shared.table_id }
+        requires stands { (o : T.Origin) × (self.inner.me.0.origin ≡ Some o) × T.stands self.value o (self.inner.me.0.seen ++ turn_of self.inner.me.0 N.events ∷ []) }
+        ensures ready { IsReady self.exit.1.0.now self.entry.lock.now.table.shared.table_id }
+        ensures after { Knows self.exit.1.0.now (after self.entry.inner.me.0 N.events) }
+        ensures tallies { Tallies (known self.exit.1.0.now) }
+    {
+        let Held {
+            lock,
+            seat,
+            mut inner,
+            value,
+        } = self;
+        lock.give(&mut inner, value);
+        let served = lock.end::<N>(&mut inner);
+        seat.badge = inner.into_badge();
+        lock.wake(served);
+    }
+}

@@ -1,0 +1,58 @@
+//! The lock and its seats in several threads, for any value that may cross to another thread.
+ghost use Rattle.std.specs.Prelude.{◌≡◌};
+ghost use Rattle.turn_lock.specs.Seats.{IsReady};
+
+use crate::closed::Closed;
+use crate::lock::TurnLock;
+use crate::logged::Logged;
+use crate::seat::Seat;
+use std::thread::{Threads, join, join_mut};
+
+fn around<T: Logged>(lock: &TurnLock<T>, seat: &mut Seat<T::Origin, T::Event>)
+    requires { IsReady seat.old lock.now.table.shared.table_id }
+    ensures { IsReady seat.new lock.now.table.shared.table_id }
+{
+    let other = lock.split(seat);
+    lock.join(seat, other);
+}
+
+/// Two threads share the lock, each with a seat of its own.
+pub fn two_around<R: Threads + Sync, T: Logged + Send>(
+    rt: &R,
+    lock: &TurnLock<T>,
+    one: &mut Seat<T::Origin, T::Event>,
+    two: &mut Seat<T::Origin, T::Event>,
+)
+    requires { IsReady one.old lock.now.table.shared.table_id × IsReady two.old lock.now.table.shared.table_id }
+    ensures { IsReady one.new lock.now.table.shared.table_id × IsReady two.new lock.now.table.shared.table_id }
+{
+    join_mut(
+        rt,
+        &mut ||
+            requires { IsReady one.now lock.now.table.shared.table_id }
+            ensures { IsReady one.exit.now lock.entry.now.table.shared.table_id }
+        { around(lock, one) },
+        &mut ||
+            requires { IsReady two.now lock.now.table.shared.table_id }
+            ensures { IsReady two.exit.now lock.entry.now.table.shared.table_id }
+        { around(lock, two) },
+    );
+}
+
+/// The lock and its seat go to another thread, which closes it.
+pub fn close_there<R: Threads + Sync, T: Logged + Send + Drop>(
+    rt: &R,
+    lock: TurnLock<T>,
+    seat: Seat<T::Origin, T::Event>,
+) -> Closed<T>
+    requires { IsReady seat lock.table.shared.table_id }
+{
+    let (closed, ()) = join(
+        rt,
+        move || -> Closed<T>
+            requires { IsReady seat lock.table.shared.table_id }
+        { lock.close(seat) },
+        || {},
+    );
+    closed
+}
