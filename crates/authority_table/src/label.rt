@@ -30,7 +30,7 @@ impl Label {
         ensures bytes { IfSome result (λ label. label_bytes label ≡ bytes.now) }
     {
         if bytes.len() <= 128 {
-            Some(Label::held(bytes))
+            Some(Label::holding(bytes))
         } else {
             None
         }
@@ -40,7 +40,7 @@ impl Label {
     pub fn copied(&self) -> Label
         ensures { label_bytes result ≡ label_bytes self.now }
     {
-        Label::held(self.as_slice())
+        Label::holding(self.as_slice())
     }
 
     pub fn as_slice(&self) -> &[u8]
@@ -50,7 +50,8 @@ impl Label {
         self.bytes.as_slice()
     }
 
-    fn held(bytes: &[u8]) -> Label
+    /// The label of a caller that knows it to be short enough.
+    pub fn holding(bytes: &[u8]) -> Label
         requires { length bytes.now ≤ 128 }
         ensures { label_bytes result ≡ bytes.now }
     {

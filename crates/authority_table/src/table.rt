@@ -56,7 +56,8 @@ impl Table {
     }
 
     pub fn is_full(&self) -> bool
-        ensures { IsTrue result ↔ (length self.now ≡ 10000) }
+        ensures full { IsTrue result ↔ (length self.now ≡ 10000) }
+        ensures room { length self.now ≤ 10000 }
     {
         self.rules.len() == Table::ROOM
     }

@@ -1,0 +1,6 @@
+-- What an edit key holds.
+use Rattle.std.specs.Prelude.{ℕ, List}
+use Rattle.desk_state.specs.declared.edit_key.EditKey.{EditKey}
+
+abbrev pub key_bytes : EditKey → List ℕ
+key_bytes key = key.bytes.items

@@ -1,0 +1,26 @@
+-- What a desk stands for: an opening, and what has happened since.
+use Rattle.std.specs.Prelude.{◌≡◌, ℕ, List, [], ◌∷◌, ◌++◌}
+use Rattle.req_tree.specs.Facts.{no_facts}
+use Rattle.authority_table.specs.Rule.{row_of, rows_of}
+use Rattle.policy_model.specs.Edits.{Tables}
+use Rattle.policy_model.specs.History.{Event, Opening, tables_of, now_of}
+use Rattle.authority_table.specs.declared.rule.Rule.{Rule}
+use Rattle.desk_state.specs.declared.receipt.Receipt.{Receipt}
+use Rattle.desk_state.specs.declared.desk.Desk.{Desk}
+use Rattle.desk_state.specs.Receipt.{receipt_of, receipts_of}
+
+abbrev pub tables : Desk → Tables
+tables d = record { rows = rows_of d.table; receipts = receipts_of d.receipts; enabled = d.enabled }
+
+abbrev pub moment_of : Desk → ℕ
+moment_of d = d.moment
+
+-- the tables with one more rule and one more receipt
+abbrev pub with_both : Rule → Receipt → Tables → Tables
+with_both rule receipt t = record { rows = t.rows ++ row_of rule ∷ []; receipts = t.receipts ++ receipt_of receipt ∷ []; enabled = t.enabled }
+
+-- the desk is where the history h leads from the opening o, whose facts are none
+pub record Stands (d : Desk) (o : Opening) (h : List Event) : Type 0 where
+  pub tables_are : tables d ≡ tables_of o h
+  pub now_is : moment_of d ≡ now_of o h
+  pub facts_are : o.facts ≡ no_facts

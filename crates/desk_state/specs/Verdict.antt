@@ -1,0 +1,15 @@
+-- The program's verdicts as those of the definitions.
+use Rattle.authority_table.specs.Label.{label_bytes}
+use Rattle.policy_model.specs.Outcomes.{Verdict}
+use Rattle.policy_model.specs.Replies.{Origin, rules, cache, unsigned}
+use Rattle.desk_state.specs.declared.verdict.Verdict as code
+use Rattle.desk_state.specs.declared.verdict.Origin as code_origin
+use Rattle.desk_state.specs.declared.verdict.Origin.TheVariants.{Rules, Cache, Unsigned}
+
+abbrev pub verdict_of : code.Verdict → Verdict
+verdict_of v = record { allow = v.allow; at = v.at; rule = v.rule; latent = v.latent; label = label_bytes v.label; overridden = v.overridden }
+
+abbrev pub origin_of : code_origin.Origin → Origin
+origin_of Rules = rules
+origin_of Cache = cache
+origin_of Unsigned = unsigned

@@ -1,0 +1,251 @@
+//! The desk: its rules, its receipts and its moment.
+
+ghost use Rattle.std.specs.Prelude.{◌≡◌, ◌+◌, ◌<◌, ◌≤◌, ◌++◌, [], ◌∷◌, List, max, length, Some, None, Err, IfSome, IsSome, IsNone, OnErr, OnOk};
+ghost use Rattle.authority_table.specs.Rule.{rows_of};
+ghost use Rattle.policy_model.specs.History.{HasOwnIds};
+ghost use Rattle.desk_state.specs.Receipt.{receipts_of};
+
+use crate::answer::Answer;
+use crate::ask::Ask;
+use crate::edit::{Content, Edit};
+use crate::fault::EditFault;
+use crate::new_rule::NewRule;
+use crate::receipt::{Receipt, Receipts};
+use crate::verdict::{Origin, Verdict};
+use authority_table::{Found, Label, Moment, Rule, RuleId, Table};
+use std::alloc::{AllocError, Global};
+
+/// Decides which code may be executed, installed or opened, by its rules.
+#[derive(Drop)]
+pub struct Desk {
+    table: Table,
+    receipts: Receipts,
+    /// Whether assessments are switched on.
+    enabled: bool,
+    /// The greatest moment that was handed in.
+    moment: Moment,
+    ghost own_ids: { HasOwnIds (record { rows = rows_of table; receipts = receipts_of receipts; enabled = enabled }) },
+    // each edit that is accepted adds one rule
+    ghost paired: { length table ≡ length receipts },
+}
+
+impl Desk {
+    ghost use Rattle.req_tree.specs.Facts.{no_facts};
+    ghost use Rattle.policy_model.specs.History.{Event, Opening, fresh, now_of, ask_answer, edit_answer};
+    ghost use Rattle.policy_model.specs.History as event;
+    ghost use Rattle.policy_model.specs.Rules.{Kind};
+    ghost use Rattle.policy_model.specs.Outcomes as policy;
+    ghost use Rattle.policy_model.specs.Texts.{add};
+    ghost use Rattle.policy_model.specs.Edits.{does, at_new, refusal};
+    ghost use Rattle.policy_model.specs.Replies.{origin_on, rules};
+    ghost use Rattle.authority_table.specs.Label.{label_bytes};
+    ghost use Rattle.authority_table.specs.Found.{governing_row, latent_row};
+    ghost use Rattle.desk_state.specs.Ask.{ask_of};
+    ghost use Rattle.desk_state.specs.Edit.{edit_of, new_row};
+    ghost use Rattle.desk_state.specs.Answer.{given, IsDone, IsAccepted};
+    ghost use Rattle.desk_state.specs.Verdict.{verdict_of, origin_of};
+    ghost use Rattle.desk_state.specs.Stands.{tables, moment_of, with_both, Stands};
+
+    /// A desk without rules, at moment 0, with assessments switched on.
+    pub fn fresh(alloc: Global) -> Desk
+        ensures { Stands result (fresh no_facts) [] }
+    {
+        Desk {
+            table: Table::new(alloc),
+            receipts: Receipts::new(alloc),
+            enabled: true,
+            moment: Moment::zero(),
+        }
+    }
+
+    /// Hands in a moment; gives the greatest one so far.
+    pub fn tick(&mut self, at: Moment) -> Moment
+        ensures moment { moment_of self.new ≡ max (moment_of self.old) at }
+        ensures gives { result ≡ moment_of self.new }
+        ensures tables { tables self.new ≡ tables self.old }
+
+        // After any history of this desk.
+        ensures stands { (o : Opening) (h : List Event) → Stands self.old o h → Stands self.new o (h ++ event.tick at ∷ []) }
+        ensures legal { (o : Opening) (h : List Event) → Stands self.old o h → result ≡ now_of o (h ++ event.tick at ∷ []) }
+    {
+        self.moment = later(self.moment, at);
+        self.moment
+    }
+
+    /// The verdict on an assessment that begins now.
+    pub fn ask(&self, ask: &Ask) -> Verdict
+        ensures verdict { verdict_of result ≡ policy.verdict (tables self.now).rows (tables self.now).enabled no_facts (moment_of self.now) (ask_of ask.now) }
+        ensures origin { origin_of result.origin ≡ origin_on (ask_of ask.now).subject }
+
+        // After any history of this desk.
+        ensures legal { (o : Opening) (h : List Event) → Stands self.now o h → verdict_of result ≡ ask_answer o h (ask_of ask.now) }
+        ensures stands { (o : Opening) (h : List Event) → Stands self.now o h → Stands self.now o (h ++ event.ask (ask_of ask.now) ∷ []) }
+    {
+        match &ask.subject {
+            None => self.decided(
+                false,
+                None,
+                None,
+                Label::holding(b"no usable signature"),
+                Origin::Unsigned,
+            ),
+            Some(subject) => self.by_rules(self.table.find(ask.kind, subject, self.moment)),
+        }
+    }
+
+    fn by_rules(&self, found: Found<'_>) -> Verdict
+        ensures verdict { (kind : Kind) → verdict_of result ≡ policy.verdict_by (tables self.now).enabled (moment_of self.now)
+            (policy.outcome_by (tables self.now).rows kind (moment_of self.now) (governing_row found.entry) (latent_row found.entry)) }
+        ensures origin { origin_of result.origin ≡ rules }
+    {
+        match (found.governing, found.latent) {
+            (Some(rule), _) => self.decided(
+                rule.allow,
+                Some(rule.id),
+                None,
+                rule.label.copied(),
+                Origin::Rules,
+            ),
+            (None, Some(rule)) => self.decided(
+                false,
+                None,
+                Some(rule.id),
+                rule.label.copied(),
+                Origin::Rules,
+            ),
+            (None, None) => self.decided(
+                false,
+                None,
+                None,
+                Label::holding(b"no matching rule"),
+                Origin::Rules,
+            ),
+        }
+    }
+
+    /// The verdict of this moment; a denial is overridden where assessments are switched off.
+    fn decided(
+        &self,
+        allow: bool,
+        rule: Option<RuleId>,
+        latent: Option<RuleId>,
+        label: Label,
+        origin: Origin,
+    ) -> Verdict
+        ensures verdict { verdict_of result ≡ policy.decided (tables self.now).enabled (moment_of self.now) allow rule latent (label_bytes label) }
+        ensures origin { result.origin ≡ origin }
+    {
+        Verdict {
+            allow: allow || !self.enabled,
+            at: self.moment,
+            rule,
+            latent,
+            label,
+            overridden: !allow && !self.enabled,
+            origin,
+        }
+    }
+
+    /// Makes an edit, or says that it was made before, or refuses it. All memory is taken before anything changes.
+    pub fn edit(&mut self, alloc: Global, edit: &Edit) -> Result<Answer, EditFault>
+        ensures does { IsDone (does (tables self.old) (edit_of edit.now)) (tables self.old) (tables self.new) (given result) }
+        ensures moment { moment_of self.new ≡ moment_of self.old }
+
+        // Want of memory comes in place of an acceptance alone.
+        ensures wanting { IsNone (given result) → IsAccepted (does (tables self.old) (edit_of edit.now)).answer }
+
+        // After any history of this desk.
+        ensures legal { (o : Opening) (h : List Event) → Stands self.old o h → IfSome (given result) (λ answer. answer ≡ edit_answer o h (edit_of edit.now)) }
+        ensures stands { (o : Opening) (h : List Event) → IsSome (given result) → Stands self.old o h → Stands self.new o (h ++ event.edit (edit_of edit.now) ∷ []) }
+        ensures unchanged { (o : Opening) (h : List Event) → IsNone (given result) → Stands self.old o h → Stands self.new o h }
+    {
+        match self.receipts.find(&edit.key) {
+            Some(receipt) => at_kept(receipt, edit),
+            None => self.accept(alloc, edit),
+        }
+    }
+
+    fn accept(&mut self, alloc: Global, edit: &Edit) -> Result<Answer, EditFault>
+        ensures does { IsDone (at_new (refusal (edit_of edit.now).content (tables self.old)) (edit_of edit.now) (tables self.old)) (tables self.old) (tables self.new) (given result) }
+        ensures moment { moment_of self.new ≡ moment_of self.old }
+        ensures wanting { IsNone (given result) → IsAccepted (at_new (refusal (edit_of edit.now).content (tables self.old)) (edit_of edit.now) (tables self.old)).answer }
+    {
+        if self.table.is_full() {
+            return Err(EditFault::TableFull);
+        }
+        match &edit.content {
+            Content::Add(rule) => self.add(alloc, edit, rule),
+        }
+    }
+
+    fn add(&mut self, alloc: Global, edit: &Edit, new: &NewRule) -> Result<Answer, EditFault>
+        requires content { (edit_of edit.now).content ≡ add (new_row new.now) }
+        requires room { length (tables self.old).rows < 10000 }
+        ensures does { IsDone (at_new None (edit_of edit.now) (tables self.old)) (tables self.old) (tables self.new) (given result) }
+        ensures moment { moment_of self.new ≡ moment_of self.old }
+    {
+        let number = self.table.count() + 1;
+        let rule = new.rule(alloc, RuleId::numbered(number))?;
+        let content = edit.content.text(alloc)?;
+        let receipt = Receipt {
+            number,
+            key: edit.key.copied(),
+            content,
+            rules: 1,
+        };
+        self.keep(rule, receipt)?;
+        Ok(Answer {
+            repeated: false,
+            number,
+            rules: 1,
+        })
+    }
+
+    /// Keeps a rule and its receipt, or neither.
+    fn keep(&mut self, rule: Rule, receipt: Receipt) -> Result<(), AllocError>
+        requires room { length (tables self.old).rows < 10000 }
+        requires id { rule.id ≡ length (tables self.old).receipts + 1 }
+        ensures ok { OnOk result (tables self.new ≡ with_both rule receipt (tables self.old)) }
+        ensures err { OnErr result (tables self.new ≡ tables self.old) }
+        ensures moment { moment_of self.new ≡ moment_of self.old }
+    {
+        self.receipts.push(receipt)?;
+        match self.table.push(rule) {
+            Ok(()) => Ok(()),
+            Err(error) => {
+                self.receipts.pop();
+                Err(error)
+            }
+        }
+    }
+}
+
+ghost use Rattle.desk_state.specs.Receipt.{receipt_of};
+ghost use Rattle.desk_state.specs.Edit.{edit_of};
+ghost use Rattle.desk_state.specs.Answer.{given};
+ghost use Rattle.policy_model.specs.Edits as policy_edits;
+
+/// The greater of two moments.
+fn later(one: Moment, other: Moment) -> Moment
+    ensures { result ≡ max one other }
+{
+    if one < other { other } else { one }
+}
+
+/// The answer to an edit under a key that is kept.
+fn at_kept(receipt: &Receipt, edit: &Edit) -> Result<Answer, EditFault>
+    ensures { given result ≡ Some (policy_edits.at_kept (receipt_of receipt.now) (edit_of edit.now)) }
+{
+    if edit.content.is(receipt.content.as_slice()) {
+        Ok(Answer {
+            repeated: true,
+            number: receipt.number,
+            rules: receipt.rules,
+        })
+    } else {
+        Err(EditFault::KeyReused {
+            number: receipt.number,
+            rules: receipt.rules,
+        })
+    }
+}

@@ -1,0 +1,76 @@
+//! Refusals of edits and of lines, with their numbers and printed lines.
+
+ghost use Rattle.std.specs.Prelude.{◌≡◌, ◌+◌, ◌≤◌, ◌++◌, length};
+ghost use Rattle.req_tree.specs.LineText.{line_bytes};
+ghost use Rattle.policy_model.specs.Replies.{not_built_text};
+
+use crate::answer::numbers_into;
+use req_tree::LineText;
+use std::alloc::AllocError;
+
+/// Why an edit was not made: the first of these, in this order. The tables are as before.
+#[derive(Clone, Copy, Debug, Drop, PartialEq, Eq)]
+pub enum EditFault {
+    /// Number 12: the key is kept with another content.
+    KeyReused {
+        /// The number of the edit that is kept.
+        number: u32,
+        /// How many rules it touched.
+        rules: u32,
+    },
+    /// Number 13: 10,000 rules are there.
+    TableFull,
+    /// There was no memory for the rule or its receipt.
+    OutOfMemory,
+}
+
+impl From<AllocError> for EditFault {
+    ghost use Rattle.std.specs.Prelude.{◌≡◌};
+    ghost use Rattle.desk_state.specs.declared.fault.EditFault.TheVariants.{OutOfMemory};
+
+    ghost from_gives = { λ _ fault. fault ≡ OutOfMemory };
+
+    fn from(_error: AllocError) -> EditFault {
+        EditFault::OutOfMemory
+    }
+}
+
+impl EditFault {
+    ghost use Rattle.desk_state.specs.Answer.{refusal_of, given_text};
+
+    /// Appends the refusal's line, without its end; nothing for want of memory.
+    pub fn line_into(&self, out: &mut LineText)
+        requires { length (line_bytes out.old) ≤ 400 }
+        ensures text { line_bytes out.new ≡ line_bytes out.old ++ given_text (refusal_of self.now) }
+        ensures length { length (line_bytes out.new) ≤ length (line_bytes out.old) + 100 }
+    {
+        match self {
+            EditFault::KeyReused { number, rules } => {
+                out.push_all(b"refused edit 12 KeyReused");
+                numbers_into(*number, *rules, out);
+            }
+            EditFault::TableFull => out.push_all(b"refused edit 13 TableFull"),
+            EditFault::OutOfMemory => {}
+        }
+    }
+}
+
+/// Why a line was not read.
+#[derive(Clone, Copy, Debug, Drop, PartialEq, Eq)]
+pub enum LineFault {
+    /// Number 8: the line is of no form that is read yet.
+    NotBuilt,
+}
+
+impl LineFault {
+    /// Appends the refusal's line, without its end.
+    pub fn line_into(&self, out: &mut LineText)
+        requires { length (line_bytes out.old) ≤ 400 }
+        ensures text { line_bytes out.new ≡ line_bytes out.old ++ not_built_text }
+        ensures length { length (line_bytes out.new) ≤ length (line_bytes out.old) + 100 }
+    {
+        match self {
+            LineFault::NotBuilt => out.push_all(b"refused line 8 NotBuilt"),
+        }
+    }
+}

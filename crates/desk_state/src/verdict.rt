@@ -1,0 +1,119 @@
+//! The verdict on an assessment.
+
+ghost use Rattle.std.specs.Prelude.{◌≡◌, ◌+◌, ◌≤◌, ◌++◌, length};
+ghost use Rattle.req_tree.specs.LineText.{line_bytes};
+ghost use Rattle.policy_model.specs.Replies.{verdict_text, number_text, accepted_text, override_text, origin_text, cache_text};
+
+use authority_table::{Label, Moment, RuleId};
+use req_tree::LineText;
+
+/// What is answered to an assessment.
+#[derive(Drop)]
+pub struct Verdict {
+    pub allow: bool,
+    /// The moment of the assessment.
+    pub at: Moment,
+    /// The rule that decided.
+    pub rule: Option<RuleId>,
+    /// Where no rule decided: the disabled rule that would have.
+    pub latent: Option<RuleId>,
+    /// The label of the rule or of the latent one, or why there is none.
+    pub label: Label,
+    /// A denial that is answered as acceptance, since assessments are switched off.
+    pub overridden: bool,
+    pub origin: Origin,
+}
+
+/// Where a verdict comes from.
+#[derive(Clone, Copy, Debug, Drop, PartialEq, Eq)]
+pub enum Origin {
+    /// The rules were looked at.
+    Rules,
+    /// A kept outcome.
+    Cache,
+    /// The code has no usable signature.
+    Unsigned,
+}
+
+impl Verdict {
+    ghost use Rattle.desk_state.specs.Verdict.{verdict_of, origin_of};
+
+    /// Appends the reply's line, without its end.
+    pub fn line_into(&self, out: &mut LineText)
+        requires { length (line_bytes out.old) ≤ 400 }
+        ensures text { line_bytes out.new ≡ line_bytes out.old ++ verdict_text (verdict_of self.now) (origin_of self.now.origin) }
+        ensures length { length (line_bytes out.new) ≤ length (line_bytes out.old) + 620 }
+    {
+        out.push_all(allow_word(self.allow));
+        out.push_all(b" at=");
+        out.push_number(self.at.get());
+        out.push_all(b" rule=");
+        number_into(self.rule, out);
+        out.push_all(b" latent=");
+        number_into(self.latent, out);
+        out.push_all(b" label=");
+        out.push_word(self.label.as_slice());
+        out.push_all(b" override=");
+        out.push_all(override_word(self.overridden));
+        out.push_all(b" source=");
+        out.push_all(self.origin.word());
+        out.push_all(b" cache=");
+        out.push_all(self.origin.cache_word());
+    }
+}
+
+impl Origin {
+    ghost use Rattle.desk_state.specs.Verdict.{origin_of};
+
+    fn word(self) -> &'static [u8]
+        ensures word { result.now ≡ origin_text (origin_of self) }
+        ensures length { length result.now ≤ 8 }
+    {
+        match self {
+            Origin::Rules => b"rules",
+            Origin::Cache => b"cache",
+            Origin::Unsigned => b"unsigned",
+        }
+    }
+
+    /// What became of the offer to keep the outcome: nothing is kept yet.
+    fn cache_word(self) -> &'static [u8]
+        ensures word { result.now ≡ cache_text (origin_of self) }
+        ensures length { length result.now ≤ 4 }
+    {
+        match self {
+            Origin::Rules => b"off",
+            Origin::Cache => b"none",
+            Origin::Unsigned => b"none",
+        }
+    }
+}
+
+fn allow_word(allow: bool) -> &'static [u8]
+    ensures word { result.now ≡ accepted_text allow }
+    ensures length { length result.now ≤ 8 }
+{
+    if allow { b"accepted" } else { b"rejected" }
+}
+
+fn override_word(overridden: bool) -> &'static [u8]
+    ensures word { result.now ≡ override_text overridden }
+    ensures length { length result.now ≤ 19 }
+{
+    if overridden {
+        b"security%20disabled"
+    } else {
+        b"none"
+    }
+}
+
+fn number_into(id: Option<RuleId>, out: &mut LineText)
+    requires { length (line_bytes out.old) + 20 ≤ 1024 }
+    ensures text { line_bytes out.new ≡ line_bytes out.old ++ number_text id }
+    ensures length { length (line_bytes out.new) ≤ length (line_bytes out.old) + 20 }
+{
+    match id {
+        None => out.push_all(b"none"),
+        Some(id) => out.push_number(id.get() as u64),
+    }
+}
