@@ -1,0 +1,5 @@
+pub mod NumberLemmas
+pub mod BlobLemmas
+pub mod SuperLemmas
+pub mod WriterLemmas
+pub mod ReadBack

@@ -1,0 +1,4 @@
+pub mod Numbers
+pub mod Blobs
+pub mod SuperBlobs
+pub mod Writing
