@@ -1,0 +1,37 @@
+//! Numbers as decimal digits.
+
+ghost use Rattle.std.specs.Prelude.{◌≡◌, ◌≤◌, length, Some, None, if◌then◌else◌};
+ghost use Rattle.std.specs.List.{list_all};
+ghost use Rattle.std.specs.Char.{is_ascii_digit};
+ghost use Rattle.policy_model.specs.Words.{number_word, digits_value};
+
+/// The number of 1 to `most` digits, where it is at most the greatest.
+pub fn read_number(word: &[u8], most: usize, greatest: u64) -> Option<u64>
+    requires { most ≤ 19 }
+    ensures { result ≡ number_word most greatest word.now }
+{
+    if word.is_empty() || word.len() > most {
+        return None;
+    }
+    let number = read_digits(word)?;
+    if number <= greatest {
+        Some(number)
+    } else {
+        None
+    }
+}
+
+fn read_digits(word: &[u8]) -> Option<u64>
+    requires { length word.now ≤ 19 }
+    ensures { result
+        ≡ (if list_all is_ascii_digit word.now then Some (digits_value word.now) else None) }
+{
+    let mut number = 0;
+    for digit in word {
+        if !digit.is_ascii_digit() {
+            return None;
+        }
+        number = number * 10 + u64::from(*digit - b'0');
+    }
+    Some(number)
+}

@@ -1,0 +1,127 @@
+//! What a single word stands for.
+
+ghost use Rattle.std.specs.Prelude.{◌≡◌, ◌↔◌, ◌≤ℤ◌, pos, codes, IsTrue, IfSome};
+ghost use Rattle.std.specs.Option.{option_map};
+ghost use Rattle.std.specs.List.{list_all};
+ghost use Rattle.req_tree.specs.WordText.{is_plain};
+ghost use Rattle.policy_model.specs.Words.{moment_word, expiry_word, kind_word, allow_word, priority_word, units_word, hash_word, identifier_word, platform_word};
+ghost use Rattle.req_tree.specs.Subject.{identifier_bytes};
+ghost use Rattle.authority_table.specs.Kind.{kind_of};
+
+use crate::number::read_number;
+use authority_table::{Kind, Moment, Priority};
+use req_tree::{Hash20, Identifier};
+
+/// How many millionths a unit of priority has.
+const UNIT: i64 = 1_000_000;
+
+pub fn read_moment(word: &[u8]) -> Option<Moment>
+    ensures { result ≡ moment_word word.now }
+{
+    Moment::of(read_number(word, 12, Moment::GREATEST)?)
+}
+
+/// A moment, or `Some(None)` for the word `never`.
+pub fn read_expiry(word: &[u8]) -> Option<Option<Moment>>
+    ensures { result ≡ expiry_word word.now }
+{
+    if word == b"never".as_slice() {
+        return Some(None);
+    }
+    let moment = read_moment(word)?;
+    Some(Some(moment))
+}
+
+pub fn read_kind(word: &[u8]) -> Option<Kind>
+    ensures { option_map kind_of result ≡ kind_word word.now }
+{
+    if word == b"execute".as_slice() {
+        Some(Kind::Execute)
+    } else if word == b"install".as_slice() {
+        Some(Kind::Install)
+    } else if word == b"open".as_slice() {
+        Some(Kind::Document)
+    } else {
+        None
+    }
+}
+
+/// Whether a rule allows.
+pub fn read_allow(word: &[u8]) -> Option<bool>
+    ensures { result ≡ allow_word word.now }
+{
+    match word {
+        b"allow" => Some(true),
+        b"deny" => Some(false),
+        _ => None,
+    }
+}
+
+/// A priority in whole units, with a minus sign or none.
+pub fn read_priority(word: &[u8]) -> Option<Priority>
+    ensures { result ≡ priority_word word.now }
+{
+    match word {
+        [] => None,
+        [b'-', digits @ ..] => {
+            let millionths = read_units(digits)?;
+            Priority::of(-millionths)
+        }
+        _ => Priority::of(read_units(word)?),
+    }
+}
+
+/// Up to a million whole units, in millionths.
+fn read_units(word: &[u8]) -> Option<i64>
+    ensures value { result ≡ option_map pos (units_word word.now) }
+    ensures least { IfSome result (λ n. pos 0 ≤ℤ n) }
+    ensures greatest { IfSome result (λ n. n ≤ℤ pos 1000000000000) }
+{
+    let units = read_number(word, 7, 1_000_000)?;
+    Some(units as i64 * UNIT)
+}
+
+pub fn is_dash(word: &[u8]) -> bool
+    ensures { IsTrue result ↔ (word.now ≡ codes "-") }
+{
+    word == b"-".as_slice()
+}
+
+/// Forty hexadecimal digits of either case.
+pub fn read_hash(word: &[u8]) -> Option<Hash20>
+    ensures { option_map (λ (hash : Hash20). hash.bytes) result ≡ hash_word word.now }
+{
+    let mut bytes = [0; 20];
+    match hex::decode_to_slice(word, &mut bytes) {
+        Ok(()) => Some(Hash20 { bytes }),
+        Err(_) => None,
+    }
+}
+
+/// An identifier that stands for itself: printable bytes other than `%`, and not `-`.
+pub fn read_identifier(word: &[u8]) -> Option<Identifier>
+    ensures { option_map identifier_bytes result ≡ identifier_word word.now }
+{
+    let plain = is_plain_text(word);
+    let dash = is_dash(word);
+    if plain && !dash {
+        Identifier::of(word)
+    } else {
+        None
+    }
+}
+
+fn is_plain_text(word: &[u8]) -> bool
+    ensures { result ≡ list_all is_plain word.now }
+{
+    word.iter()
+        .all(|byte| 0x21 <= *byte && *byte <= 0x7e && *byte != b'%')
+}
+
+/// The number of a platform, 0 to 255.
+pub fn read_platform(word: &[u8]) -> Option<u8>
+    ensures { result ≡ platform_word word.now }
+{
+    let number = read_number(word, 3, 255)?;
+    Some(number as u8)
+}
