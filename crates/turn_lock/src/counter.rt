@@ -1,7 +1,8 @@
 //! The smallest logged value: a count of the events of all turns, from where it began.
 ghost use Rattle.std.specs.Prelude.{◌≡◌, [], ◌∷◌, ◌++◌, ℕ, ◌+◌, Some, IfSome, IsTrue, OnOk, OnErr};
-ghost use Rattle.turn_lock.specs.Views.{Tallies, after, newborn, refused, turn_of};
-ghost use Rattle.turn_lock.specs.Seats.{IsOut, IsReady, Knows, SameSeat, Turned, known};
+ghost use Rattle.turn_lock.specs.declared.logged.View.{View};
+ghost use Rattle.turn_lock.specs.Views.{Rests, Tallies, after, newborn, refused, turn_of};
+ghost use Rattle.turn_lock.specs.Seats.{HasBegun, IsOut, IsReady, Knows, SameSeat, Turned, known};
 ghost use Rattle.turn_lock.specs.Counts.{Counted, event_count};
 
 use crate::fault::Spent;
@@ -46,13 +47,14 @@ fn finish<N: Names<u64>>(held: Held<'_, Counter>, event: u64)
     ensures ready { IsReady held.exit.1.0.now held.entry.lock.now.table.shared.table_id }
     ensures after { Knows held.exit.1.0.now (after held.entry.inner.me.0 N.events) }
     ensures tallies { Tallies (known held.exit.1.0.now) }
+    ensures turned { (v : View ℕ ℕ) (x : Counter) → Rests v → HasBegun (λ c o h. Counted c o h) v held.entry.inner.me.0 x → Turned v (known held.exit.1.0.now) (event ∷ []) }
 {
     let _ = event;
     held.end::<N>();
 }
 
 /// Counts one event, in a turn of its own.
-#[tactic(auto, using(crate::proofs::TurnLemmas::turned, crate::proofs::TurnLemmas::turned_seat, crate::proofs::TurnLemmas::refused_seat))]
+#[tactic(auto, using(crate::proofs::TurnLemmas::turned_seat, crate::proofs::TurnLemmas::refused_seat))]
 pub fn bump<R: Wait>(
     rt: &R,
     lock: &TurnLock<Counter>,

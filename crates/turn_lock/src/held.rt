@@ -3,7 +3,7 @@ ghost use Rattle.std.specs.Prelude.{◌≡◌, [], ◌∷◌, ◌++◌, Some, If
 ghost use Rattle.std.specs.Borrow.{sem, RestsIfErr};
 ghost use Rattle.turn_lock.specs.contracts.seat.Seat.{the_row};
 ghost use Rattle.turn_lock.specs.declared.logged.View.{View};
-ghost use Rattle.turn_lock.specs.Views.{Tallies, after, refused, turn_of};
+ghost use Rattle.turn_lock.specs.Views.{Rests, Tallies, after, refused, turn_of};
 ghost use Rattle.turn_lock.specs.Seats.{HasBegun, IsOut, IsReady, Knows, Turned, known};
 ghost use Rattle.turn_lock.specs.Lends.{LendsValue};
 
@@ -70,7 +70,7 @@ impl<'a, T: Logged> Held<'a, T> {
         &mut self.value
     }
 
-    #[tactic(auto, using(crate::proofs::TurnLemmas::ready, crate::proofs::TurnLemmas::tallies_known))]
+    #[tactic(auto, using(crate::proofs::TurnLemmas::ready, crate::proofs::TurnLemmas::tallies_known, crate::proofs::TurnLemmas::turned))]
     /// Puts the value back, and ends the turn with the events that the call names.
     pub fn end<N: Names<T::Event>>(self)
         requires out { IsOut self.inner self.lock.now.table.shared.table_id }
@@ -78,6 +78,9 @@ impl<'a, T: Logged> Held<'a, T> {
         ensures ready { IsReady self.exit.1.0.now self.entry.lock.now.table.shared.table_id }
         ensures after { Knows self.exit.1.0.now (after self.entry.inner.me.0 N.events) }
         ensures tallies { Tallies (known self.exit.1.0.now) }
+
+        // From the seat's view before the turn to the one after it.
+        ensures turned { (v : View T.Origin T.Event) (x : T) → Rests v → HasBegun T.stands v self.entry.inner.me.0 x → Turned v (known self.exit.1.0.now) N.events }
     {
         let Held {
             lock,
