@@ -1,0 +1,5 @@
+mod RequirementLemmas
+mod FrontLemmas
+mod SessionLemmas
+mod EndLemmas
+mod CommandLemmas

@@ -1,0 +1,9 @@
+pub mod AddFront
+pub mod Answered
+pub mod CommandLine
+pub mod Ends
+pub mod Headline
+pub mod LastLines
+pub mod Laws
+pub mod Requests
+pub mod Status

@@ -1,0 +1,30 @@
+//! The line that ends the output of a run.
+
+ghost use Rattle.std.specs.Prelude.{◌≤◌, length, OnErr};
+ghost use Rattle.req_tree.specs.LineText.{line_bytes};
+ghost use Rattle.gk_io.specs.Faults.{Rose};
+ghost use Rattle.gk_io.specs.Told.{PutAppends};
+ghost use Rattle.line_reader.specs.Lines.{with_lf};
+
+use gk_io::{Failed, Sink};
+use req_tree::LineText;
+
+/// Writes the text with an LF in one call, and flushes it.
+pub fn write_last<W: Sink>(output: &mut W, text: &[u8]) -> Result<(), Failed>
+    requires { length text.now ≤ 1000 }
+    ensures bytes { PutAppends (W.written output.old) (W.written output.new) result (with_lf text.now) }
+    ensures later { W.faults output.old ≤ W.faults output.new }
+    ensures cause { OnErr result (Rose (W.faults output.old) (W.faults output.new)) }
+{
+    let mut line = LineText::new();
+    line.push_all(text);
+    line.push(b'\n');
+    match output.put(line.as_slice()) {
+        Ok(()) => {}
+        Err(failed) => return Err(failed),
+    }
+    match output.flush() {
+        Ok(()) => Ok(()),
+        Err(failed) => Err(failed),
+    }
+}

@@ -1,0 +1,105 @@
+//! All that the program does.
+
+ghost use Rattle.std.specs.Prelude.{◌≡◌, ◌≢◌, ◌⊎◌, ◌≤◌, ◌↔◌, ℕ, List, Option, Some, IsSome};
+ghost use Rattle.gk_io.specs.Faults.{Rose};
+ghost use Rattle.line_reader.specs.Limits.{IsWithin};
+ghost use Rattle.spctl_cli.specs.CommandLine.{IsSessionCommand};
+ghost use Rattle.spctl_cli.specs.Headline.{IsSession};
+ghost use Rattle.spctl_cli.specs.Ends.{SessionEnds, UsageEnds, GavePast};
+
+use crate::command::is_session;
+use crate::desk_lines::DeskLines;
+use crate::last_line::write_last;
+use crate::status::Status;
+use gk_io::{Failed, Sink, Source};
+use line_session::{Ended, run_session};
+use std::alloc::Global;
+
+/// Does what the words of the command line say, of which the program's name is none.
+pub fn run<S: Source, W: Sink>(
+    alloc: Global,
+    words: &[&str],
+    input: &mut S,
+    output: &mut W,
+) -> Status
+    // The headline.
+    ensures fine { result ≡ Status.Fine
+        → IsSession (S.left input.old) (S.left input.new)
+        (W.written output.old) (W.written output.new) }
+
+    // What was read, answered and written, by the end.
+    ensures session { IsSessionCommand words.now
+        → SessionEnds (S.left input.old) (S.left input.new)
+        (W.written output.old) (W.written output.new) result }
+    ensures usage { ¬ IsSessionCommand words.now
+        → UsageEnds (S.left input.old) (S.left input.new)
+        (W.written output.old) (W.written output.new) result }
+
+    // The cause of each end. A fault is that of its device, in this call. Want of memory is free; what
+    // comes exactly where something holds yields to it, and to a fault of the sink.
+    ensures usage_cause { result ≢ Status.WriteFault
+        → ((result ≡ Status.Usage) ↔ (¬ IsSessionCommand words.now)) }
+    ensures read_cause { result ≡ Status.ReadFault → Rose (S.faults input.old) (S.faults input.new) }
+    ensures write_cause { result ≡ Status.WriteFault → Rose (W.faults output.old) (W.faults output.new) }
+    ensures too_long_cause { IsSome (S.left input.old)
+        → result ≢ Status.WriteFault → result ≢ Status.OutOfMemory
+        → ((result ≡ Status.SessionTooLong) ↔ GavePast (S.left input.old) (S.left input.new)) }
+
+    // A session within its limits, over devices that don't fail, ends well or for want of memory.
+    ensures complete { (bytes : List ℕ) → IsSessionCommand words.now
+        → S.left input.old ≡ Some bytes → IsWithin bytes
+        → ¬ Rose (S.faults input.old) (S.faults input.new)
+        → ¬ Rose (W.faults output.old) (W.faults output.new)
+        → (result ≡ Status.Fine) ⊎ (result ≡ Status.OutOfMemory) }
+    ensures input_later { S.faults input.old ≤ S.faults input.new }
+    ensures output_later { W.faults output.old ≤ W.faults output.new }
+{
+    if is_session(words) {
+        session(alloc, input, output)
+    } else {
+        usage(output)
+    }
+}
+
+/// Answers the lines of the input by a fresh desk.
+fn session<S: Source, W: Sink>(alloc: Global, input: &mut S, output: &mut W) -> Status
+    ensures ends { SessionEnds (S.left input.old) (S.left input.new)
+        (W.written output.old) (W.written output.new) result }
+    ensures within { (bytes : List ℕ) → S.left input.old ≡ Some bytes → IsWithin bytes
+        → result ≢ Status.SessionTooLong }
+    ensures read_cause { result ≡ Status.ReadFault → Rose (S.faults input.old) (S.faults input.new) }
+    ensures write_cause { result ≡ Status.WriteFault → Rose (W.faults output.old) (W.faults output.new) }
+    ensures input_later { S.faults input.old ≤ S.faults input.new }
+    ensures output_later { W.faults output.old ≤ W.faults output.new }
+{
+    let mut desk = DeskLines::fresh(alloc);
+    match run_session(alloc, &mut desk, input, output) {
+        Ended::Fine => Status::Fine,
+        Ended::WriteFault => Status::WriteFault,
+        Ended::OutOfMemory => Status::OutOfMemory,
+        Ended::ReadFault => match write_last(output, b"fault ReadFault") {
+            Ok(()) => Status::ReadFault,
+            Err(Failed) => Status::WriteFault,
+        },
+        Ended::TooLong => match write_last(output, b"fault SessionTooLong") {
+            Ok(()) => Status::SessionTooLong,
+            Err(Failed) => Status::WriteFault,
+        },
+    }
+}
+
+/// Tells how the program is called.
+fn usage<W: Sink>(output: &mut W) -> Status
+    ensures ends { (left : Option (List ℕ))
+        → UsageEnds left left (W.written output.old) (W.written output.new) result }
+    ensures write_cause { result ≡ Status.WriteFault → Rose (W.faults output.old) (W.faults output.new) }
+    ensures output_later { W.faults output.old ≤ W.faults output.new }
+{
+    match write_last(
+        output,
+        b"usage: gatekeeper [--facts NAME] STORE COMMAND [WORDS]",
+    ) {
+        Ok(()) => Status::Usage,
+        Err(Failed) => Status::WriteFault,
+    }
+}
