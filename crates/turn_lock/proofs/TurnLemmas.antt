@@ -4,6 +4,7 @@ use mathlib.Core.List.{IsPrefix}
 use mathlib.Core.Option.{some}
 use lib.ListN.{get_elem?}
 use Rattle.atomic_table.specs.Seated.{TableId}
+use Rattle.turn_lock.specs.declared.lock.TurnLock.{TurnLock}
 use Rattle.turn_lock.proofs.ListLemmas.{longer_first}
 use Rattle.turn_lock.proofs.SeatLemmas.{middle, newborn_has, halves_have, both_has}
 use Rattle.turn_lock.specs.declared.logged.Turn.{Turn}
@@ -11,7 +12,7 @@ use Rattle.turn_lock.specs.declared.logged.Kept.{Kept}
 use Rattle.turn_lock.specs.declared.logged.View.{View}
 use Rattle.turn_lock.specs.declared.seat.Seat.{Seat}
 use Rattle.turn_lock.specs.Views.{after, refused, turn_of, number_at, kept_at, newborn, Rests, Has, HasAll, left_of, right_of, both_of, kept_of, Tallies}
-use Rattle.turn_lock.specs.Seats.{IsReady, Knows, known, first_of_views, HasBegun, SameSeat, Turned}
+use Rattle.turn_lock.specs.Seats.{id_of, IsReady, Knows, known, first_of_views, HasBegun, SameSeat, Turned}
 
 module _ {O E : Type 0} where
   pub join_seen : (s : Seat O E) (v w : View O E) → Knows s (both_of v w) → Tallies (both_of v w) → IsPrefix v.seen (known s).seen × IsPrefix w.seen (known s).seen
@@ -21,8 +22,13 @@ module _ {O E : Type 0} where
   pub known_of : (s : Seat O E) (v : View O E) → Knows s v → known s ≡ v
   known_of s v e = ap first_of_views e
 
-  pub ready : (s : Seat O E) (v : View O E) (lock : TableId) → s.badge.table_id ≡ lock → Knows s v → Rests v → ((o : O) × (v.origin ≡ Some o)) → IsReady s lock
-  ready s v lock same e rests o = let t : Knows s (known s) × Rests (known s) × ((o : O) × ((known s).origin ≡ Some o)) = subst (λ (ws : List (View O E)). (ws ≡ first_of_views ws ∷ []) × Rests (first_of_views ws) × ((o : O) × ((first_of_views ws).origin ≡ Some o))) (sym e) (refl, rests, o) in (same, t.0, t.1, t.2)
+  pub ready_at : (s : Seat O E) (v : View O E) (z : TableId) → s.badge.table_id ≡ z → Knows s v → Rests v → ((o : O) × (v.origin ≡ Some o))
+      → (s.badge.table_id ≡ z) × Knows s (known s) × Rests (known s) × ((o : O) × ((known s).origin ≡ Some o))
+  ready_at s v z same e rests o = let t : Knows s (known s) × Rests (known s) × ((o : O) × ((known s).origin ≡ Some o)) =
+      subst (λ (ws : List (View O E)). (ws ≡ first_of_views ws ∷ []) × Rests (first_of_views ws) × ((o : O) × ((first_of_views ws).origin ≡ Some o))) (sym e) (refl, rests, o) in (same, t.0, t.1, t.2)
+
+  pub ready : {R : Type 0} (s : Seat O E) (v : View O E) (lock : TurnLock R O E) → s.badge.table_id ≡ id_of lock → Knows s v → Rests v → ((o : O) × (v.origin ≡ Some o)) → IsReady s lock
+  ready s v lock = ready_at s v (id_of lock)
 
   pub tallies_known : (s : Seat O E) (v : View O E) → Knows s v → Tallies v → Tallies (known s)
   tallies_known s v e t = subst Tallies (sym (known_of s v e)) t

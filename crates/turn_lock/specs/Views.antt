@@ -29,6 +29,10 @@ module _ {O E : Type 0} where
   abbrev pub Rests : View O E → Type 0
   Rests v = (v.gone ≡ false) × (v.tickets ≡ []) × (v.holds ≡ false)
 
+  -- the seat has just this ticket, and not yet its turn
+  abbrev pub Waits : View O E → ℕ → Type 0
+  Waits v ticket = (v.gone ≡ false) × (v.holds ≡ false) × (v.tickets ≡ ticket ∷ [])
+
   -- the seat's number, and those left to seats that are split from it
   abbrev pub number_at : View O E → ℕ → ℕ
   number_at v a = v.number + a * v.step

@@ -2,8 +2,8 @@
 ghost use Rattle.std.specs.Prelude.{◌≡◌, [], ◌∷◌, ◌++◌, ℕ, ◌+◌, Some, IfSome, IsTrue, OnOk, OnErr};
 ghost use Rattle.turn_lock.specs.declared.logged.View.{View};
 ghost use Rattle.turn_lock.specs.Views.{Rests, Tallies, after, newborn, refused, turn_of};
-ghost use Rattle.turn_lock.specs.Seats.{HasBegun, IsOut, IsReady, Knows, SameSeat, Turned, known};
-ghost use Rattle.turn_lock.specs.Counts.{Counted, event_count};
+ghost use Rattle.turn_lock.specs.Seats.{HasBegun, IsOut, MayEnd, IsReady, Knows, SameSeat, Turned, known};
+ghost use Rattle.turn_lock.specs.Counts.{Counted, HasCounted};
 
 use crate::fault::Spent;
 use crate::held::Held;
@@ -32,7 +32,7 @@ impl Logged for Counter {
 impl Counter {
     /// A lock over a count of nothing, and its first seat; none at want of memory.
     pub fn locked(alloc: Global) -> Option<(TurnLock<Counter>, Seat<u64, u64>)>
-        ensures ready { IfSome result (λ made. IsReady made.1 made.0.table.shared.table_id) }
+        ensures ready { IfSome result (λ made. IsReady made.1 made.0) }
         ensures seat { IfSome result (λ made. Knows made.1 (newborn 0)) }
     {
         TurnLock::new(alloc, Counter { count: 0 }).ok()
@@ -41,13 +41,15 @@ impl Counter {
 
 // Ends a turn of one event. The call picks N from it.
 fn finish<N: Names<u64>>(held: Held<'_, Counter>, event: u64)
-    requires out { IsOut held.inner held.lock.now.table.shared.table_id }
-    requires stands { (o : ℕ) × (held.inner.me.0.origin ≡ Some o) × Counted held.value o (held.inner.me.0.seen ++ turn_of held.inner.me.0 N.events ∷ []) }
+    requires out { IsOut held.inner held.lock.now }
+    requires stands { MayEnd (λ c o h. Counted c o h) held.inner.me.0 N.events held.value }
     requires picked { N.events ≡ event ∷ [] }
-    ensures ready { IsReady held.exit.1.0.now held.entry.lock.now.table.shared.table_id }
+    ensures ready { IsReady held.exit.1.0.now held.entry.lock.now }
     ensures after { Knows held.exit.1.0.now (after held.entry.inner.me.0 N.events) }
     ensures tallies { Tallies (known held.exit.1.0.now) }
-    ensures turned { (v : View ℕ ℕ) (x : Counter) → Rests v → HasBegun (λ c o h. Counted c o h) v held.entry.inner.me.0 x → Turned v (known held.exit.1.0.now) (event ∷ []) }
+    ensures turned { (v : View ℕ ℕ) (x : Counter) → Rests v
+        → HasBegun (λ c o h. Counted c o h) v held.entry.inner.me.0 x
+        → Turned v (known held.exit.1.0.now) (event ∷ []) }
 {
     let _ = event;
     held.end::<N>();
@@ -61,8 +63,8 @@ pub fn bump<R: Wait>(
     seat: &mut Seat<u64, u64>,
     event: u64,
 ) -> Result<(), Spent>
-    requires ready { IsReady seat.old lock.now.table.shared.table_id }
-    ensures ready { IsReady seat.new lock.now.table.shared.table_id }
+    requires ready { IsReady seat.old lock.now }
+    ensures ready { IsReady seat.new lock.now }
     ensures turned { OnOk result (Turned (known seat.old) (known seat.new) (event ∷ [])) }
     ensures spent { OnErr result (Knows seat.new (refused (known seat.old))) }
     ensures seat { SameSeat (known seat.old) (known seat.new) }
@@ -82,10 +84,10 @@ pub fn bump_times<R: Wait>(
     seat: &mut Seat<u64, u64>,
     times: u64,
 ) -> bool
-    requires ready { IsReady seat.old lock.now.table.shared.table_id }
-    ensures ready { IsReady seat.new lock.now.table.shared.table_id }
+    requires ready { IsReady seat.old lock.now }
+    ensures ready { IsReady seat.new lock.now }
     ensures seat { SameSeat (known seat.old) (known seat.new) }
-    ensures counted { IsTrue result → event_count (known seat.new).own ≡ event_count (known seat.old).own + times }
+    ensures counted { IsTrue result → HasCounted (known seat.old) (known seat.new) times }
 {
     for event in 0..times {
         if bump(rt, lock, seat, event).is_err() {

@@ -1,7 +1,7 @@
 //! Several threads that count under one lock.
 ghost use Rattle.std.specs.Prelude.{◌≡◌, ◌+◌, ◌*◌, ◌%◌, ◌^◌, ℕ, IsTrue, IfSome};
 ghost use Rattle.std.specs.Thread.{IsSync};
-ghost use Rattle.turn_lock.specs.Counts.{event_count};
+ghost use Rattle.turn_lock.specs.Counts.{HasCounted};
 ghost use Rattle.turn_lock.specs.Views.{Has};
 ghost use Rattle.turn_lock.specs.Seats.{IsReady, SameSeat, known};
 
@@ -21,20 +21,26 @@ pub fn in_two<R: Threads + Wait + Sync>(
     two: &mut Seat<u64, u64>,
     times: u64,
 ) -> bool
-    requires { IsReady one.old lock.now.table.shared.table_id × IsReady two.old lock.now.table.shared.table_id }
-    ensures ready { IsReady one.new lock.now.table.shared.table_id × IsReady two.new lock.now.table.shared.table_id }
-    ensures seats { SameSeat (known one.old) (known one.new) × SameSeat (known two.old) (known two.new) }
-    ensures counted { IsTrue result → (event_count (known one.new).own ≡ event_count (known one.old).own + times) × (event_count (known two.new).own ≡ event_count (known two.old).own + times) }
+    requires { IsReady one.old lock.now × IsReady two.old lock.now }
+    ensures ready { IsReady one.new lock.now × IsReady two.new lock.now }
+    ensures one { SameSeat (known one.old) (known one.new) }
+    ensures two { SameSeat (known two.old) (known two.new) }
+    ensures one_counted { IsTrue result → HasCounted (known one.old) (known one.new) times }
+    ensures two_counted { IsTrue result → HasCounted (known two.old) (known two.new) times }
 {
     let (first, second) = join_mut(
         rt,
         &mut || -> bool
-            requires { IsSync R.row × IsReady one.now lock.now.table.shared.table_id }
-            ensures { IsReady one.exit.now lock.entry.now.table.shared.table_id × SameSeat (known one.entry.now) (known one.exit.now) × (IsTrue result → event_count (known one.exit.now).own ≡ event_count (known one.entry.now).own + times) }
+            requires { IsSync R.row × IsReady one.now lock.now }
+            ensures ready { IsReady one.exit.now lock.entry.now }
+            ensures seat { SameSeat (known one.entry.now) (known one.exit.now) }
+            ensures counted { IsTrue result → HasCounted (known one.entry.now) (known one.exit.now) times }
         { bump_times(rt, lock, one, times) },
         &mut || -> bool
-            requires { IsSync R.row × IsReady two.now lock.now.table.shared.table_id }
-            ensures { IsReady two.exit.now lock.entry.now.table.shared.table_id × SameSeat (known two.entry.now) (known two.exit.now) × (IsTrue result → event_count (known two.exit.now).own ≡ event_count (known two.entry.now).own + times) }
+            requires { IsSync R.row × IsReady two.now lock.now }
+            ensures ready { IsReady two.exit.now lock.entry.now }
+            ensures seat { SameSeat (known two.entry.now) (known two.exit.now) }
+            ensures counted { IsTrue result → HasCounted (known two.entry.now) (known two.exit.now) times }
         { bump_times(rt, lock, two, times) },
     );
     first && second
@@ -50,24 +56,28 @@ pub fn in_four<R: Threads + Wait + Sync>(
     four: &mut Seat<u64, u64>,
     times: u64,
 ) -> bool
-    requires front { IsReady one.old lock.now.table.shared.table_id × IsReady two.old lock.now.table.shared.table_id }
-    requires back { IsReady three.old lock.now.table.shared.table_id × IsReady four.old lock.now.table.shared.table_id }
-    ensures front { IsReady one.new lock.now.table.shared.table_id × IsReady two.new lock.now.table.shared.table_id }
-    ensures back { IsReady three.new lock.now.table.shared.table_id × IsReady four.new lock.now.table.shared.table_id }
-    ensures front_seats { SameSeat (known one.old) (known one.new) × SameSeat (known two.old) (known two.new) }
-    ensures back_seats { SameSeat (known three.old) (known three.new) × SameSeat (known four.old) (known four.new) }
+    requires front { IsReady one.old lock.now × IsReady two.old lock.now }
+    requires back { IsReady three.old lock.now × IsReady four.old lock.now }
+    ensures front { IsReady one.new lock.now × IsReady two.new lock.now }
+    ensures back { IsReady three.new lock.now × IsReady four.new lock.now }
+    ensures one { SameSeat (known one.old) (known one.new) }
+    ensures two { SameSeat (known two.old) (known two.new) }
+    ensures three { SameSeat (known three.old) (known three.new) }
+    ensures four { SameSeat (known four.old) (known four.new) }
 {
     let (front, back) = join_mut(
         rt,
         &mut || -> bool
-            requires { IsSync R.row × IsReady one.now lock.now.table.shared.table_id × IsReady two.now lock.now.table.shared.table_id }
-            ensures ready { IsReady one.exit.now lock.entry.now.table.shared.table_id × IsReady two.exit.now lock.entry.now.table.shared.table_id }
-            ensures seats { SameSeat (known one.entry.now) (known one.exit.now) × SameSeat (known two.entry.now) (known two.exit.now) }
+            requires { IsSync R.row × IsReady one.now lock.now × IsReady two.now lock.now }
+            ensures ready { IsReady one.exit.now lock.entry.now × IsReady two.exit.now lock.entry.now }
+            ensures one { SameSeat (known one.entry.now) (known one.exit.now) }
+            ensures two { SameSeat (known two.entry.now) (known two.exit.now) }
         { in_two(rt, lock, one, two, times) },
         &mut || -> bool
-            requires { IsSync R.row × IsReady three.now lock.now.table.shared.table_id × IsReady four.now lock.now.table.shared.table_id }
-            ensures ready { IsReady three.exit.now lock.entry.now.table.shared.table_id × IsReady four.exit.now lock.entry.now.table.shared.table_id }
-            ensures seats { SameSeat (known three.entry.now) (known three.exit.now) × SameSeat (known four.entry.now) (known four.exit.now) }
+            requires { IsSync R.row × IsReady three.now lock.now × IsReady four.now lock.now }
+            ensures ready { IsReady three.exit.now lock.entry.now × IsReady four.exit.now lock.entry.now }
+            ensures three { SameSeat (known three.entry.now) (known three.exit.now) }
+            ensures four { SameSeat (known four.entry.now) (known four.exit.now) }
         { in_two(rt, lock, three, four, times) },
     );
     front && back
@@ -88,15 +98,16 @@ pub fn count_of_two<R: Threads + Wait + Sync>(rt: &R, alloc: Global, times: u64)
     }
 }
 
-/// Splits a seat off, which does the same with one generation fewer, counts one event, and joins them again.
+/// Splits a seat off, which does the same with one generation fewer, counts one event, and joins
+/// them again.
 pub fn in_generations<R: Wait>(
     rt: &R,
     lock: &TurnLock<Counter>,
     seat: &mut Seat<u64, u64>,
     generations: u64,
 ) -> bool
-    requires { IsReady seat.old lock.now.table.shared.table_id }
-    ensures ready { IsReady seat.new lock.now.table.shared.table_id }
+    requires { IsReady seat.old lock.now }
+    ensures ready { IsReady seat.new lock.now }
     ensures numbers { (n : ℕ) → Has (known seat.old) n → Has (known seat.new) n }
 {
     if generations == 0 {

@@ -4,7 +4,7 @@ ghost use Rattle.std.specs.Borrow.{sem, RestsIfErr};
 ghost use Rattle.turn_lock.specs.contracts.seat.Seat.{the_row};
 ghost use Rattle.turn_lock.specs.declared.logged.View.{View};
 ghost use Rattle.turn_lock.specs.Views.{Rests, Tallies, after, refused, turn_of};
-ghost use Rattle.turn_lock.specs.Seats.{HasBegun, IsOut, IsReady, Knows, Turned, known};
+ghost use Rattle.turn_lock.specs.Seats.{HasBegun, IsOut, IsReady, IsRefused, Knows, MayEnd, Turned, known};
 ghost use Rattle.turn_lock.specs.Lends.{LendsValue};
 
 use crate::fault::Spent;
@@ -26,18 +26,19 @@ pub struct Held<'a, T: Logged> {
 }
 
 impl<O, E> Seat<O, E> {
-    /// Waits for the seat's turn. `Spent` comes exactly where a load of this call found no ticket left: the seat
-    /// then knows of one more such load, and at a turn of none.
+    /// Waits for the seat's turn. `Spent` comes exactly where a load of this call found no ticket
+    /// left: the seat then knows of one more such load, and at a turn of none.
     pub fn turn<'a, R: Wait, T: Logged<Origin = O, Event = E>>(
         &'a mut self,
         rt: &R,
         lock: &'a TurnLock<T>,
     ) -> Result<Held<'a, T>, Spent>
-        requires ready { IsReady self.old lock.now.table.shared.table_id }
-        ensures* refused { sem 𝓛 (RestsIfErr (the_row O.row E.row) self.entry (λ held. held.seat.ghost_name) result (λ last. Knows last (refused (known self.old)) × IsReady last lock.now.table.shared.table_id × Tallies (known last))) }
+        requires ready { IsReady self.old lock.now }
+        ensures* refused { sem 𝓛 (RestsIfErr (the_row O.row E.row) self.entry (λ held. held.seat.ghost_name)
+            result (λ last. IsRefused (known self.old) last lock.now)) }
         ensures same_reference { IfOk result (λ held. held.seat.ghost_name ≡ self.entry.ghost_name) }
         ensures lock { IfOk result (λ held. held.lock.now ≡ lock.now) }
-        ensures out { IfOk result (λ held. IsOut held.inner lock.now.table.shared.table_id) }
+        ensures out { IfOk result (λ held. IsOut held.inner lock.now) }
         ensures begun { IfOk result (λ held. HasBegun T.stands (known self.old) held.inner.me.0 held.value) }
     {
         let (inner, value) = take_turn(self, rt, lock)?;
@@ -53,7 +54,8 @@ impl<'a, T: Logged> Held<'a, T> {
         value: T,
     ) -> Held<'a, T>
         ensures same_reference { result.seat.ghost_name ≡ seat.entry.ghost_name }
-        ensures same { (result.inner ≡ inner) × (result.value ≡ value) × (result.lock.now ≡ lock.now) }
+        ensures lock { result.lock.now ≡ lock.now }
+        ensures same { (result.inner ≡ inner) × (result.value ≡ value) }
     {
         Held {
             lock,
@@ -70,17 +72,19 @@ impl<'a, T: Logged> Held<'a, T> {
         &mut self.value
     }
 
-    #[tactic(auto, using(crate::proofs::TurnLemmas::ready, crate::proofs::TurnLemmas::tallies_known, crate::proofs::TurnLemmas::turned))]
     /// Puts the value back, and ends the turn with the events that the call names.
+    #[tactic(auto, using(crate::proofs::TurnLemmas::ready, crate::proofs::TurnLemmas::tallies_known, crate::proofs::TurnLemmas::turned))]
     pub fn end<N: Names<T::Event>>(self)
-        requires out { IsOut self.inner self.lock.now.table.shared.table_id }
-        requires stands { (o : T.Origin) × (self.inner.me.0.origin ≡ Some o) × T.stands self.value o (self.inner.me.0.seen ++ turn_of self.inner.me.0 N.events ∷ []) }
-        ensures ready { IsReady self.exit.1.0.now self.entry.lock.now.table.shared.table_id }
+        requires out { IsOut self.inner self.lock.now }
+        requires stands { MayEnd T.stands self.inner.me.0 N.events self.value }
+        ensures ready { IsReady self.exit.1.0.now self.entry.lock.now }
         ensures after { Knows self.exit.1.0.now (after self.entry.inner.me.0 N.events) }
         ensures tallies { Tallies (known self.exit.1.0.now) }
 
         // From the seat's view before the turn to the one after it.
-        ensures turned { (v : View T.Origin T.Event) (x : T) → Rests v → HasBegun T.stands v self.entry.inner.me.0 x → Turned v (known self.exit.1.0.now) N.events }
+        ensures turned { (v : View T.Origin T.Event) (x : T) → Rests v
+            → HasBegun T.stands v self.entry.inner.me.0 x
+            → Turned v (known self.exit.1.0.now) N.events }
     {
         let Held {
             lock,

@@ -1,6 +1,7 @@
 //! A lock of tickets whose value stands for the one history of all turns.
 #![tactic(auto)]
 
+mod calls;
 pub mod closed;
 pub mod counter;
 pub mod counting;

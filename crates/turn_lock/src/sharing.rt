@@ -9,8 +9,8 @@ use crate::seat::Seat;
 use std::thread::{Threads, join, join_mut};
 
 fn around<T: Logged>(lock: &TurnLock<T>, seat: &mut Seat<T::Origin, T::Event>)
-    requires { IsReady seat.old lock.now.table.shared.table_id }
-    ensures { IsReady seat.new lock.now.table.shared.table_id }
+    requires { IsReady seat.old lock.now }
+    ensures { IsReady seat.new lock.now }
 {
     let other = lock.split(seat);
     lock.join(seat, other);
@@ -23,18 +23,18 @@ pub fn two_around<R: Threads + Sync, T: Logged + Send>(
     one: &mut Seat<T::Origin, T::Event>,
     two: &mut Seat<T::Origin, T::Event>,
 )
-    requires { IsReady one.old lock.now.table.shared.table_id × IsReady two.old lock.now.table.shared.table_id }
-    ensures { IsReady one.new lock.now.table.shared.table_id × IsReady two.new lock.now.table.shared.table_id }
+    requires { IsReady one.old lock.now × IsReady two.old lock.now }
+    ensures { IsReady one.new lock.now × IsReady two.new lock.now }
 {
     join_mut(
         rt,
         &mut ||
-            requires { IsReady one.now lock.now.table.shared.table_id }
-            ensures { IsReady one.exit.now lock.entry.now.table.shared.table_id }
+            requires { IsReady one.now lock.now }
+            ensures { IsReady one.exit.now lock.entry.now }
         { around(lock, one) },
         &mut ||
-            requires { IsReady two.now lock.now.table.shared.table_id }
-            ensures { IsReady two.exit.now lock.entry.now.table.shared.table_id }
+            requires { IsReady two.now lock.now }
+            ensures { IsReady two.exit.now lock.entry.now }
         { around(lock, two) },
     );
 }
@@ -45,12 +45,12 @@ pub fn close_there<R: Threads + Sync, T: Logged + Send + Drop>(
     lock: TurnLock<T>,
     seat: Seat<T::Origin, T::Event>,
 ) -> Closed<T>
-    requires { IsReady seat lock.table.shared.table_id }
+    requires { IsReady seat lock }
 {
     let (closed, ()) = join(
         rt,
         move || -> Closed<T>
-            requires { IsReady seat lock.table.shared.table_id }
+            requires { IsReady seat lock }
         { lock.close(seat) },
         || {},
     );

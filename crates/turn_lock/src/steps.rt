@@ -2,7 +2,8 @@
 ghost use Rattle.std.specs.Prelude.{◌≡◌, ◌≢◌, ℕ, ◌<◌, ◌≤◌, ◌^◌, List, [], ◌∷◌, ◌++◌, length, Some, None, true, false};
 ghost use Rattle.turn_lock.specs.declared.closed.Closed.TheVariants.{Whole, Stuck};
 ghost use Rattle.turn_lock.specs.declared.logged.Turn.{Turn};
-ghost use Rattle.turn_lock.specs.Views.{Accounts, HasAll, Rests, Tallies, after, blank, both_of, left_of, refused, right_of, turn_of};
+ghost use Rattle.turn_lock.specs.Views.{HasAll, Rests, Tallies, Waits, after, blank, both_of, left_of, refused, right_of};
+ghost use Rattle.turn_lock.specs.Seats.{IsWhole, MayEnd};
 ghost use Rattle.turn_lock.specs.Steps.{Takes};
 
 use crate::closed::Closed;
@@ -16,7 +17,8 @@ const NEXT: usize = 0;
 const SERVING: usize = 1;
 
 pub(crate) fn begin<T: Logged, N: Origins<T::Origin>>(table: &Board<T>, seat: &mut Place<T>)
-    requires same { (seat.old.table_id ≡ table.now.shared.table_id) × (0 < table.now.shared.table_id.words) }
+    requires same { seat.old.table_id ≡ table.now.shared.table_id }
+    requires words { 0 < table.now.shared.table_id.words }
     requires first { seat.old.me ≡ (blank, []) }
     requires stands { (o : T.Origin) × (N.origin ≡ Some o) × T.stands table.now.shared.key.value o [] }
     ensures me { seat.new.me ≡ (record blank { origin = N.origin }, []) }
@@ -52,7 +54,8 @@ impl<T: Logged> TurnLock<T> {
         requires rests { Rests seat.old.me.0 }
         requires room { next < 2 ^ 63 }
         ensures id { (seat.new.table_id ≡ seat.old.table_id) × (seat.new.id ≡ seat.old.id) }
-        ensures won { result ≡ next → seat.new.me ≡ (record seat.old.me.0 { tickets = next ∷ [] }, seat.old.me.1) }
+        ensures won { result ≡ next
+            → seat.new.me ≡ (record seat.old.me.0 { tickets = next ∷ [] }, seat.old.me.1) }
         ensures lost { result ≢ next → seat.new.me ≡ seat.old.me }
     {
         self.table
@@ -68,7 +71,7 @@ impl<T: Logged> TurnLock<T> {
     pub(crate) fn see(&self, seat: &mut Place<T>, ticket: u64) -> u64
         requires same { seat.old.table_id ≡ self.now.table.shared.table_id }
         requires live { (o : T.Origin) × (seat.old.me.0.origin ≡ Some o) }
-        requires waits { (seat.old.me.0.gone ≡ false) × (seat.old.me.0.holds ≡ false) × (seat.old.me.0.tickets ≡ ticket ∷ []) × (seat.old.me.1 ≡ []) }
+        requires waits { Waits seat.old.me.0 ticket × (seat.old.me.1 ≡ []) }
         ensures id { (seat.new.table_id ≡ seat.old.table_id) × (seat.new.id ≡ seat.old.id) }
         ensures served { result ≡ ticket → Takes T.stands seat.old.me result seat.new.me }
         ensures waits { result ≢ ticket → seat.new.me ≡ seat.old.me }
@@ -111,7 +114,8 @@ impl<T: Logged> TurnLock<T> {
     pub(crate) fn end<N: Names<T::Event>>(&self, seat: &mut Place<T>) -> u64
         requires same { seat.old.table_id ≡ self.now.table.shared.table_id }
         requires holds { (seat.old.me.0.gone ≡ false) × (seat.old.me.0.holds ≡ true) }
-        requires value { (x : T) × (o : T.Origin) × (seat.old.me.1 ≡ (0, Some x) ∷ []) × (seat.old.me.0.origin ≡ Some o) × T.stands x o (seat.old.me.0.seen ++ turn_of seat.old.me.0 N.events ∷ []) }
+        requires value { (x : T) × (seat.old.me.1 ≡ (0, Some x) ∷ [])
+            × MayEnd T.stands seat.old.me.0 N.events x }
         ensures id { (seat.new.table_id ≡ seat.old.table_id) × (seat.new.id ≡ seat.old.id) }
         ensures me { seat.new.me ≡ (after seat.old.me.0 N.events, []) }
         ensures tallies { Tallies seat.new.me.0 }
@@ -130,7 +134,8 @@ impl<T: Logged> TurnLock<T> {
         requires same { seat.old.table_id ≡ self.now.table.shared.table_id }
         requires live { (o : T.Origin) × (seat.old.me.0.origin ≡ Some o) }
         requires rests { Rests seat.old.me.0 }
-        ensures id { (seat.new.table_id ≡ seat.old.table_id) × (seat.new.id ≡ seat.old.id) × (result.table_id ≡ seat.old.table_id) }
+        ensures id { (seat.new.table_id ≡ seat.old.table_id) × (seat.new.id ≡ seat.old.id) }
+        ensures same { result.table_id ≡ seat.old.table_id }
         ensures old { seat.new.me ≡ (left_of seat.old.me.0, seat.old.me.1) }
         ensures new { result.me ≡ (right_of seat.old.me.0, []) }
     {
@@ -138,7 +143,8 @@ impl<T: Logged> TurnLock<T> {
     }
 
     pub(crate) fn merge(&self, seat: &mut Place<T>, other: Place<T>)
-        requires same { (seat.old.table_id ≡ self.now.table.shared.table_id) × (other.table_id ≡ self.now.table.shared.table_id) }
+        requires same { seat.old.table_id ≡ self.now.table.shared.table_id }
+        requires other_same { other.table_id ≡ self.now.table.shared.table_id }
         requires live { (o : T.Origin) × (seat.old.me.0.origin ≡ Some o) }
         requires other { (o : T.Origin) × (other.me.0.origin ≡ Some o) × (other.me.1 ≡ []) }
         requires rests { Rests seat.old.me.0 × Rests other.me.0 }
@@ -154,8 +160,9 @@ impl<T: Logged> TurnLock<T> {
         requires same { seat.table_id ≡ self.table.shared.table_id }
         requires live { (o : T.Origin) × (seat.me.0.origin ≡ Some o) }
         requires rests { Rests seat.me.0 }
-        ensures whole { (x : T) → result ≡ Whole x → (o : T.Origin) × (h : List (Turn T.Event)) × (seat.me.0.origin ≡ Some o) × T.stands x o h × Accounts seat.me.0 h }
-        ensures stuck { (n s : ℕ) → result ≡ Stuck n s → (length seat.me.0.seen ≤ s) × (s < n) × (n ≤ 2 ^ 63) }
+        ensures whole { (x : T) → result ≡ Whole x → IsWhole T.stands seat.me.0 x }
+        ensures stuck { (n s : ℕ) → result ≡ Stuck n s
+            → (length seat.me.0.seen ≤ s) × (s < n) × (n ≤ 2 ^ 63) }
         ensures alone { HasAll seat.me.0 → (x : T) × (result ≡ Whole x) }
     {
         let TurnLock { table } = self;

@@ -1,8 +1,8 @@
 //! Waiting for a turn: a seat draws a ticket, and sleeps until it is served.
 ghost use Rattle.std.specs.Prelude.{◌≡◌, ◌<◌, ◌^◌, [], ◌∷◌, Some, IfOk, OnErr, false};
-ghost use Rattle.turn_lock.specs.Views.{Rests, Tallies, refused};
+ghost use Rattle.turn_lock.specs.Views.{Rests, Waits, refused};
 ghost use Rattle.turn_lock.specs.Steps.{Takes};
-ghost use Rattle.turn_lock.specs.Seats.{HasBegun, IsOut, IsReady, Knows, known};
+ghost use Rattle.turn_lock.specs.Seats.{HasBegun, IsOut, IsReady, IsRefused, known};
 
 use crate::fault::Spent;
 use crate::lock::TurnLock;
@@ -27,7 +27,8 @@ pub(crate) fn draw<R: Wait, T: Logged>(
     requires live { (o : T.Origin) × (place.old.me.0.origin ≡ Some o) }
     requires rests { Rests place.old.me.0 }
     ensures id { (place.new.table_id ≡ place.old.table_id) × (place.new.id ≡ place.old.id) }
-    ensures drawn { IfOk result (λ t. place.new.me ≡ (record place.old.me.0 { tickets = t ∷ [] }, place.old.me.1)) }
+    ensures drawn { IfOk result
+        (λ t. place.new.me ≡ (record place.old.me.0 { tickets = t ∷ [] }, place.old.me.1)) }
     ensures spent { OnErr result (place.new.me ≡ (refused place.old.me.0, place.old.me.1)) }
 {
     let backoff = Backoff::new();
@@ -55,7 +56,7 @@ pub(crate) fn wait<R: Wait, T: Logged>(
 )
     requires same { place.old.table_id ≡ lock.now.table.shared.table_id }
     requires live { (o : T.Origin) × (place.old.me.0.origin ≡ Some o) }
-    requires waits { (place.old.me.0.gone ≡ false) × (place.old.me.0.holds ≡ false) × (place.old.me.0.tickets ≡ ticket ∷ []) × (place.old.me.1 ≡ []) }
+    requires waits { Waits place.old.me.0 ticket × (place.old.me.1 ≡ []) }
     ensures id { (place.new.table_id ≡ place.old.table_id) × (place.new.id ≡ place.old.id) }
     ensures takes { Takes T.stands place.old.me ticket place.new.me }
 {
@@ -80,11 +81,11 @@ pub(crate) fn take_turn<R: Wait, T: Logged>(
     rt: &R,
     lock: &TurnLock<T>,
 ) -> Result<(Place<T>, T), Spent>
-    requires ready { IsReady seat.old lock.now.table.shared.table_id }
+    requires ready { IsReady seat.old lock.now }
     ensures begun { IfOk result (λ r. HasBegun T.stands (known seat.old) r.0.me.0 r.1) }
-    ensures out { IfOk result (λ r. IsOut r.0 lock.now.table.shared.table_id) }
+    ensures out { IfOk result (λ r. IsOut r.0 lock.now) }
     ensures blank { IfOk result (λ r. seat.new.badge.views ≡ []) }
-    ensures spent { OnErr result (Knows seat.new (refused (known seat.old)) × IsReady seat.new lock.now.table.shared.table_id × Tallies (known seat.new)) }
+    ensures spent { OnErr result (IsRefused (known seat.old) seat.new lock.now) }
 {
     let badge = mem::replace(&mut seat.badge, Badge::blank());
     let mut place = badge.into_seat::<Option<T>>();

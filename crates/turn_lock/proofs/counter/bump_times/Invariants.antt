@@ -4,5 +4,5 @@ use Rattle.turn_lock.specs.Counts.{event_count}
 use Rattle.turn_lock.proofs.counter.bump_times.Given as goal
 
 abbrev pub invariant-loop-event : goal.invariant-loop-event
-invariant-loop-event g l = IsReady l.seat l.fn.lock.table.shared.table_id × SameSeat (known l.fn.seat) (known l.seat)
+invariant-loop-event g l = IsReady l.seat l.fn.lock × SameSeat (known l.fn.seat) (known l.seat)
     × (event_count (known l.seat).own ≡ event_count (known l.fn.seat).own + l.event)

@@ -28,9 +28,9 @@ returns-in-Whole g c =
     let begun : (known c.join.new.seat).origin ≡ Some 0 = ap (λ (z : View ℕ ℕ). z.origin) e ∙ p.0 in
     let zero_origin : whole.0 ≡ 0 = cc (whole.2, begun) in
     let counted : Counted c.in-Whole.counter 0 whole.1 = subst (λ z. Counted c.in-Whole.counter z whole.1) zero_origin whole.3 in
-    let each = c.in_two-counted.ensures.counted c.if-counted.true in
+    let really = c.if-counted.true in
     let none : (known c.split-two.new.seat).own ≡ [] = search rules in
     let none' : (known c.split-two.result).own ≡ [] = search rules in
-    let first : event_count v.own ≡ times = each.0 ∙ (ap (λ h. event_count h + times) none ∙ from_zero times) in
-    let second : event_count w.own ≡ times = each.1 ∙ (ap (λ h. event_count h + times) none' ∙ from_zero times) in
+    let first : event_count v.own ≡ times = c.in_two-counted.ensures.one_counted really ∙ (ap (λ h. event_count h + times) none ∙ from_zero times) in
+    let second : event_count w.own ≡ times = c.in_two-counted.ensures.two_counted really ∙ (ap (λ h. event_count h + times) none' ∙ from_zero times) in
     two_total c.in-Whole.counter whole.1 v w (known c.join.new.seat) p q e whole.4 counted ∙ ap (λ z. z % 2 ^ 64) (λ i. first i + second i)

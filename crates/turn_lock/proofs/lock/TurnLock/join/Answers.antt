@@ -10,7 +10,14 @@ returns-clause-seen g c =
     let s : Seat g.row.T-Origin.Denot g.row.T-Event.Denot = record c.args.seat.now { badge = c.into_badge-2.result } in
     let e : Knows s (both_of (known c.args.seat.now) (known c.args.other)) = search rules in
     let m : c.merge.new.seat.me.0 ≡ both_of (known c.args.seat.now) (known c.args.other) = search rules in
-    join_seen s (known c.args.seat.now) (known c.args.other) e (subst Tallies m c.learn.ensures.tallies)
+    (join_seen s (known c.args.seat.now) (known c.args.other) e (subst Tallies m c.learn.ensures.tallies)).0
+
+pub returns-clause-seen_there : goal.returns-clause-seen_there
+returns-clause-seen_there g c =
+    let s : Seat g.row.T-Origin.Denot g.row.T-Event.Denot = record c.args.seat.now { badge = c.into_badge-2.result } in
+    let e : Knows s (both_of (known c.args.seat.now) (known c.args.other)) = search rules in
+    let m : c.merge.new.seat.me.0 ≡ both_of (known c.args.seat.now) (known c.args.other) = search rules in
+    (join_seen s (known c.args.seat.now) (known c.args.other) e (subst Tallies m c.learn.ensures.tallies)).1
 
 pub returns-clause-tallies : goal.returns-clause-tallies
 returns-clause-tallies g c =
