@@ -1,5 +1,5 @@
 -- What the forms in memory hold. This project's own.
-use Rattle.std.specs.Prelude.{ℕ, List, drop}
+use Rattle.std.specs.Prelude.{ℕ, List, take, drop}
 use Rattle.gk_io.specs.declared.memory_source.MemorySource.{MemorySource}
 use Rattle.gk_io.specs.declared.memory_sink.MemorySink.{MemorySink}
 
@@ -22,6 +22,10 @@ source_faults s = s.faults
 -- the bytes that were written
 abbrev pub sink_written : MemorySink → List ℕ
 sink_written s = s.bytes.items
+
+-- the bytes that were flushed
+abbrev pub sink_flushed : MemorySink → List ℕ
+sink_flushed s = take s.flushed s.bytes.items
 
 -- how many bytes find room in all
 abbrev pub sink_room : MemorySink → ℕ

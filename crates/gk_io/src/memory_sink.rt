@@ -1,9 +1,9 @@
 //! A sink into memory of a fixed room, some of whose calls fail.
 
-ghost use Rattle.std.specs.Prelude.{◌≡◌, ◌≤◌, ◌<◌, ◌+◌, ◌⊎◌, ◌↔◌, Some, List, [], OnErr, IfOk, IsErr, Contains, is_ok, is_some, length, vec_capacity, if◌then◌else◌};
+ghost use Rattle.std.specs.Prelude.{◌≡◌, ◌≤◌, ◌<◌, ◌+◌, ◌⊎◌, ◌↔◌, Some, List, [], OnOk, OnErr, IfOk, IsErr, Contains, is_ok, is_some, length, vec_capacity, if◌then◌else◌};
 ghost use Rattle.std.specs.Io.KnownBytes.{Keeps};
 ghost use Rattle.gk_io.specs.Faults.{Rose, counted};
-ghost use Rattle.gk_io.specs.Told.{PutAppends};
+ghost use Rattle.gk_io.specs.Told.{IsFlushed, PutAppends};
 
 use crate::call_numbers::CallNumbers;
 use crate::fault::Failed;
@@ -14,16 +14,18 @@ use std::alloc::{AllocError, Global};
 #[derive(Drop)]
 pub struct MemorySink {
     bytes: Vec<u8>,
+    flushed: usize,
     room: usize,
     failing: CallNumbers,
     calls: u64,
     faults: u64,
+    ghost front: { flushed ≤ length bytes.items },
     ghost within: { length bytes.items ≤ room },
     ghost taken: { room ≤ vec_capacity bytes },
 }
 
 impl MemorySink {
-    ghost use Rattle.gk_io.specs.Memory.{sink_written, sink_room, sink_failing, sink_calls, sink_faults};
+    ghost use Rattle.gk_io.specs.Memory.{sink_written, sink_flushed, sink_room, sink_failing, sink_calls, sink_faults};
 
     pub fn with_room(
         alloc: Global,
@@ -31,6 +33,7 @@ impl MemorySink {
         failing: CallNumbers,
     ) -> Result<MemorySink, AllocError>
         ensures written { IfOk result (λ s. sink_written s ≡ []) }
+        ensures flushed { IfOk result (λ s. sink_flushed s ≡ []) }
         ensures room { IfOk result (λ s. sink_room s ≡ room) }
         ensures failing { IfOk result (λ s. sink_failing s ≡ failing) }
         ensures calls { IfOk result (λ s. sink_calls s ≡ 0) }
@@ -39,6 +42,7 @@ impl MemorySink {
         let bytes = Vec::with_capacity(alloc, room)?;
         Ok(MemorySink {
             bytes,
+            flushed: 0,
             room,
             failing,
             calls: 0,
@@ -52,6 +56,13 @@ impl MemorySink {
         self.bytes.as_slice()
     }
 
+    /// What was written by the last call of `flush` that didn't fail.
+    pub fn flushed(&self) -> &[u8]
+        ensures { result.now ≡ sink_flushed self.now }
+    {
+        &self.bytes.as_slice()[..self.flushed]
+    }
+
     /// How many of its calls failed, up to the greatest u64.
     pub fn faults(&self) -> u64
         ensures { result ≡ sink_faults self.now }
@@ -61,14 +72,17 @@ impl MemorySink {
 }
 
 impl Sink for MemorySink {
-    ghost use Rattle.gk_io.specs.Memory.{sink_written, sink_room, sink_failing, sink_calls, sink_faults};
+    ghost use Rattle.gk_io.specs.Memory.{sink_written, sink_flushed, sink_room, sink_failing, sink_calls, sink_faults};
 
     ghost written = { λ s. Some (sink_written s) };
+
+    ghost flushed = { λ s. Some (sink_flushed s) };
 
     ghost faults = { sink_faults };
 
     fn put(&mut self, bytes: &[u8]) -> Result<(), Failed>
         ensures bytes { PutAppends (Some (sink_written self.old)) (Some (sink_written self.new)) result bytes.now }
+        ensures keeps { Keeps (Some (sink_flushed self.old)) (Some (sink_flushed self.new)) }
         ensures telling { is_some (Some (sink_written self.new)) ≡ is_some (Some (sink_written self.old)) }
         ensures later { sink_faults self.old ≤ sink_faults self.new }
         ensures cause { OnErr result (Rose (sink_faults self.old) (sink_faults self.new)) }
@@ -96,6 +110,7 @@ impl Sink for MemorySink {
 
     fn flush(&mut self) -> Result<(), Failed>
         ensures bytes { Keeps (Some (sink_written self.old)) (Some (sink_written self.new)) }
+        ensures flushes { OnOk result (IsFlushed (Some (sink_flushed self.new)) (Some (sink_written self.new))) }
         ensures telling { is_some (Some (sink_written self.new)) ≡ is_some (Some (sink_written self.old)) }
         ensures later { sink_faults self.old ≤ sink_faults self.new }
         ensures cause { OnErr result (Rose (sink_faults self.old) (sink_faults self.new)) }
@@ -113,6 +128,7 @@ impl Sink for MemorySink {
             self.faults = self.faults.saturating_add(1);
             return Err(Failed);
         }
+        self.flushed = self.bytes.len();
         Ok(())
     }
 }

@@ -1,7 +1,9 @@
 //! A sink over a writer of std. It tells nothing of the bytes.
 
-ghost use Rattle.std.specs.Prelude.{◌≡◌, ◌≤◌, None, OnErr};
+ghost use Rattle.std.specs.Prelude.{◌≡◌, ◌≤◌, ℕ, List, None, OnOk, OnErr, is_some};
+ghost use Rattle.std.specs.Io.KnownBytes.{Keeps};
 ghost use Rattle.gk_io.specs.Faults.{Rose};
+ghost use Rattle.gk_io.specs.Told.{IsFlushed, PutAppends};
 
 use crate::fault::Failed;
 use crate::sink::Sink;
@@ -29,6 +31,7 @@ impl<W: Write> StdSink<W> {
     fn fail(&mut self) -> Failed
         ensures rose { Rose self.old.faults self.new.faults }
         ensures later { self.old.faults ≤ self.new.faults }
+        ensures inner { self.new.inner ≡ self.old.inner }
     {
         self.faults = self.faults.saturating_add(1);
         Failed
@@ -40,7 +43,16 @@ impl<W: Write> Sink for StdSink<W> {
 
     ghost faults = { λ s. s.faults };
 
-    fn put(&mut self, bytes: &[u8]) -> Result<(), Failed> {
+    fn put(&mut self, bytes: &[u8]) -> Result<(), Failed>
+        ensures bytes { PutAppends None None result bytes.now }
+        ensures keeps { Keeps None None }
+        ensures telling { is_some {T = List ℕ} None ≡ is_some {T = List ℕ} None }
+        ensures later { self.old.faults ≤ self.new.faults }
+        ensures cause { OnErr result (Rose self.old.faults self.new.faults) }
+
+        // Where the writer tells its bytes, it gained all of them, or a front at a failure.
+        ensures passes { PutAppends (W.contents self.old.inner) (W.contents self.new.inner) result bytes.now }
+    {
         let mut rest = bytes;
         let mut tries = TRIES;
         while !rest.is_empty() {
@@ -59,7 +71,14 @@ impl<W: Write> Sink for StdSink<W> {
         Ok(())
     }
 
-    fn flush(&mut self) -> Result<(), Failed> {
+    fn flush(&mut self) -> Result<(), Failed>
+        ensures bytes { Keeps None None }
+        ensures flushes { OnOk result (IsFlushed None None) }
+        ensures telling { is_some {T = List ℕ} None ≡ is_some {T = List ℕ} None }
+        ensures later { self.old.faults ≤ self.new.faults }
+        ensures cause { OnErr result (Rose self.old.faults self.new.faults) }
+        ensures passes { Keeps (W.contents self.old.inner) (W.contents self.new.inner) }
+    {
         for _turn in 0..TRIES {
             match self.inner.flush() {
                 Ok(()) => return Ok(()),

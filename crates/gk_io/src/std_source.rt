@@ -1,6 +1,9 @@
 //! A source over a reader of std. It tells nothing of the bytes.
 
-ghost use Rattle.std.specs.Prelude.{◌≡◌, None};
+ghost use Rattle.std.specs.Prelude.{◌≡◌, ◌≤◌, ℕ, List, None, OnErr, is_some};
+ghost use Rattle.std.specs.Io.{ReadsAtMost};
+ghost use Rattle.std.specs.Io.KnownBytes.{ReadConsumes};
+ghost use Rattle.gk_io.specs.Faults.{Rose};
 
 use crate::fault::Failed;
 use crate::source::Source;
@@ -30,7 +33,16 @@ impl<R: Read> Source for StdSource<R> {
 
     ghost faults = { λ s. s.faults };
 
-    fn read(&mut self, buf: &mut [u8]) -> Result<usize, Failed> {
+    fn read(&mut self, buf: &mut [u8]) -> Result<usize, Failed>
+        ensures bound { ReadsAtMost result buf.new }
+        ensures bytes { ReadConsumes None None result buf.new }
+        ensures telling { is_some {T = List ℕ} None ≡ is_some {T = List ℕ} None }
+        ensures later { self.old.faults ≤ self.new.faults }
+        ensures cause { OnErr result (Rose self.old.faults self.new.faults) }
+
+        // Where the reader tells its bytes, just those that are given are lost to it.
+        ensures passes { ReadConsumes (R.remaining self.old.inner) (R.remaining self.new.inner) result buf.new }
+    {
         for _turn in 0..TRIES {
             match self.inner.read(buf) {
                 Ok(count) => return Ok(count),

@@ -41,6 +41,7 @@ fn a_memory_sink_keeps_what_finds_room_but_at_the_named_calls(rt: HostRuntime) -
     assert_eq!(rt; sink.put(b"cde"), Err(Failed));
     assert_eq!(rt; sink.put(b"cd"), Ok(()));
     assert_eq!(rt; sink.written(), b"abcd".as_slice());
+    assert_eq!(rt; sink.flushed(), b"ab".as_slice());
     assert_eq!(rt; sink.faults(), 3);
     Ok(())
 }

@@ -5,6 +5,8 @@ mod find;
 mod held_line;
 mod line_read;
 mod reader;
+#[cfg(test)]
+mod tests;
 
 pub use line_read::LineRead;
 pub use reader::LineReader;

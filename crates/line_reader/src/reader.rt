@@ -1,6 +1,6 @@
 //! A source read in pieces and handed on line by line.
 
-ghost use Rattle.std.specs.Prelude.{◌≡◌, ◌≢◌, ◌+◌, ◌<◌, ◌≤◌, [], ◌∷◌, ◌++◌, Ok, IfOk, OnOk, OnErr, length};
+ghost use Rattle.std.specs.Prelude.{◌≡◌, ◌≢◌, ◌+◌, ◌<◌, ◌≤◌, [], ◌∷◌, ◌++◌, Ok, IfOk, OnErr, is_some, length};
 
 use crate::find::find_lf;
 use crate::held_line::HeldLine;
@@ -66,6 +66,7 @@ impl LineReader {
             (held self.new) (pending self.new) result }
         ensures lines { lines_handed self.new ≤ 1000000 }
         ensures bytes { bytes_handed self.new ≤ 268435456 }
+        ensures telling { is_some (S.left source.new) ≡ is_some (S.left source.old) }
         ensures later { S.faults source.old ≤ S.faults source.new }
         ensures cause { OnErr result (Rose (S.faults source.old) (S.faults source.new)) }
     {
@@ -88,6 +89,7 @@ impl LineReader {
         ensures bytes { IsReady (stream self.old (S.left source.old)).unread
             (stream self.new (S.left source.new)).unread (pending self.new) result }
         ensures same { SameBut self.old self.new }
+        ensures telling { is_some (S.left source.new) ≡ is_some (S.left source.old) }
         ensures later { S.faults source.old ≤ S.faults source.new }
         ensures cause { OnErr result (Rose (S.faults source.old) (S.faults source.new)) }
     {
@@ -105,6 +107,7 @@ impl LineReader {
         requires { self.old.next ≡ self.old.end }
         ensures bytes { IsFilled (S.left source.old) (S.left source.new) (pending self.new) result }
         ensures same { SameBut self.old self.new }
+        ensures telling { is_some (S.left source.new) ≡ is_some (S.left source.old) }
         ensures later { S.faults source.old ≤ S.faults source.new }
         ensures cause { OnErr result (Rose (S.faults source.old) (S.faults source.new)) }
     {

@@ -5,6 +5,8 @@ mod ended;
 mod reply;
 mod responder;
 mod session;
+#[cfg(test)]
+mod tests;
 
 pub use ended::Ended;
 pub use responder::Responder;

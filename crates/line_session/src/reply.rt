@@ -1,8 +1,9 @@
 //! One line's reply.
 
-ghost use Rattle.std.specs.Prelude.{◌≡◌, ◌≤◌, ℕ, List, [], ◌∷◌, ◌++◌, length, take};
+ghost use Rattle.std.specs.Prelude.{◌≡◌, ◌≢◌, ◌≤◌, ℕ, List, [], ◌∷◌, ◌++◌, is_some, length, take};
 ghost use Rattle.req_tree.specs.LineText.{line_bytes};
 ghost use Rattle.gk_io.specs.Faults.{Rose};
+ghost use Rattle.gk_io.specs.Told.{IsFlushed};
 ghost use Rattle.line_session.specs.Replies.{IsReplied, IsWritten};
 
 use crate::responder::Responder;
@@ -33,6 +34,9 @@ pub fn reply_to<R: Responder, W: Sink>(
         → line.now ≡ take 8193 whole → R.answered responder.old lines replies
         → IsReplied (R.answered responder.new) (W.written output.old) (W.written output.new)
         whole lines replies result }
+    ensures flushed { result ≢ Reply.Broken → IsFlushed (W.flushed output.old) (W.written output.old)
+        → IsFlushed (W.flushed output.new) (W.written output.new) }
+    ensures telling { is_some (W.written output.new) ≡ is_some (W.written output.old) }
     ensures later { W.faults output.old ≤ W.faults output.new }
     ensures cause { result ≡ Reply.Broken → Rose (W.faults output.old) (W.faults output.new) }
 {
@@ -47,6 +51,8 @@ pub fn reply_to<R: Responder, W: Sink>(
 fn write_line<W: Sink>(text: &mut LineText, output: &mut W) -> Reply
     requires { length (line_bytes text.old) ≤ 1000 }
     ensures written { IsWritten (W.written output.old) (W.written output.new) (line_bytes text.old) result }
+    ensures flushed { result ≡ Reply.Whole → IsFlushed (W.flushed output.new) (W.written output.new) }
+    ensures telling { is_some (W.written output.new) ≡ is_some (W.written output.old) }
     ensures later { W.faults output.old ≤ W.faults output.new }
     ensures cause { result ≡ Reply.Broken → Rose (W.faults output.old) (W.faults output.new) }
 {

@@ -1,7 +1,8 @@
 //! The loop over the lines of a session.
 
-ghost use Rattle.std.specs.Prelude.{◌≡◌, ◌≢◌, ◌<◌, ◌≤◌, ℕ, List, [], Option, Some, None, IfNone};
+ghost use Rattle.std.specs.Prelude.{◌≡◌, ◌≢◌, ◌<◌, ◌≤◌, ℕ, List, [], Option, Some, None, IfNone, is_some};
 ghost use Rattle.gk_io.specs.Faults.{Rose};
+ghost use Rattle.gk_io.specs.Told.{IsFlushed};
 ghost use Rattle.line_reader.specs.Limits.{IsWithin, RunsPast};
 ghost use Rattle.line_reader.specs.Reading.{pending, stream, lines_handed, bytes_handed};
 ghost use Rattle.line_session.specs.Ends.{EndsFine, StopsBefore, BreaksOff, AtReadFault, AtLimit, AtWant};
@@ -36,6 +37,8 @@ pub fn run_session<R: Responder, S: Source, W: Sink>(
         (S.left input.old) (S.left input.new) (W.written output.old) (W.written output.new) }
     ensures write_fault { result ≡ Ended.WriteFault → BreaksOff (R.answered responder.new)
         (S.left input.old) (S.left input.new) (W.written output.old) (W.written output.new) }
+    ensures flushed { result ≢ Ended.WriteFault → IsFlushed (W.flushed output.old) (W.written output.old)
+        → IsFlushed (W.flushed output.new) (W.written output.new) }
 
     // The causes. A session whose bytes are told ends by its limits only where they run past them, and is fine
     // only where they don't.
@@ -44,6 +47,8 @@ pub fn run_session<R: Responder, S: Source, W: Sink>(
     ensures within { (bytes : List ℕ) → S.left input.old ≡ Some bytes → IsWithin bytes → result ≢ Ended.TooLong }
     ensures past { (bytes : List ℕ) → S.left input.old ≡ Some bytes → RunsPast bytes → result ≢ Ended.Fine }
 
+    ensures input_telling { is_some (S.left input.new) ≡ is_some (S.left input.old) }
+    ensures output_telling { is_some (W.written output.new) ≡ is_some (W.written output.old) }
     ensures input_later { S.faults input.old ≤ S.faults input.new }
     ensures output_later { W.faults output.old ≤ W.faults output.new }
 {
@@ -67,8 +72,12 @@ fn all_lines<R: Responder, S: Source, W: Sink>(
     requires answered { R.answered responder.old [] [] }
     ensures ends { IsEnd (R.answered responder.new)
         (S.left input.old) (S.left input.new) (W.written output.old) (W.written output.new) result }
+    ensures flushed { result ≢ Ended.WriteFault → IsFlushed (W.flushed output.old) (W.written output.old)
+        → IsFlushed (W.flushed output.new) (W.written output.new) }
     ensures read_cause { result ≡ Ended.ReadFault → Rose (S.faults input.old) (S.faults input.new) }
     ensures write_cause { result ≡ Ended.WriteFault → Rose (W.faults output.old) (W.faults output.new) }
+    ensures input_telling { is_some (S.left input.new) ≡ is_some (S.left input.old) }
+    ensures output_telling { is_some (W.written output.new) ≡ is_some (W.written output.old) }
     ensures input_later { S.faults input.old ≤ S.faults input.new }
     ensures output_later { W.faults output.old ≤ W.faults output.new }
 {
@@ -95,8 +104,12 @@ fn turn<R: Responder, S: Source, W: Sink>(
         first (W.written output.new) result }
     ensures counted { IfNone result (lines_handed reader.old < lines_handed reader.new) }
     ensures lines { lines_handed reader.new ≤ 1000000 }
+    ensures flushed { result ≢ Some Ended.WriteFault → IsFlushed (W.flushed output.old) (W.written output.old)
+        → IsFlushed (W.flushed output.new) (W.written output.new) }
     ensures read_cause { result ≡ Some Ended.ReadFault → Rose (S.faults input.old) (S.faults input.new) }
     ensures write_cause { result ≡ Some Ended.WriteFault → Rose (W.faults output.old) (W.faults output.new) }
+    ensures input_telling { is_some (S.left input.new) ≡ is_some (S.left input.old) }
+    ensures output_telling { is_some (W.written output.new) ≡ is_some (W.written output.old) }
     ensures input_later { S.faults input.old ≤ S.faults input.new }
     ensures output_later { W.faults output.old ≤ W.faults output.new }
 {

@@ -1,4 +1,5 @@
-use Rattle.std.proofs.Common.{◌-◌, ◌≤◌}
+use Rattle.std.proofs.Common.{◌≡◌, is_some, ℕ, ◌-◌, ◌≤◌}
+use Rattle.gk_io.specs.Told.{IsFlushed}
 use Rattle.line_reader.specs.Reading.{stream}
 use Rattle.line_session.specs.Turns.{IsGoing}
 use Rattle.line_session.proofs.session.all_lines.Given as goal
@@ -6,6 +7,9 @@ use Rattle.line_session.proofs.session.all_lines.Given as goal
 abbrev pub invariant-loop-ended : goal.invariant-loop-ended
 invariant-loop-ended g l = record {
   going : IsGoing (g.R.Responder.answered l.responder) (g.S.Source.left l.fn.input) (stream l.reader (g.S.Source.left l.input)) (g.W.Sink.written l.fn.output) (g.W.Sink.written l.output);
+  flushed : IsFlushed (g.W.Sink.flushed l.fn.output) (g.W.Sink.written l.fn.output) → IsFlushed (g.W.Sink.flushed l.output) (g.W.Sink.written l.output);
+  input_telling : is_some (g.S.Source.left l.input) ≡ is_some (g.S.Source.left l.fn.input);
+  output_telling : is_some (g.W.Sink.written l.output) ≡ is_some (g.W.Sink.written l.fn.output);
   input_later : g.S.Source.faults l.fn.input ≤ g.S.Source.faults l.input;
   output_later : g.W.Sink.faults l.fn.output ≤ g.W.Sink.faults l.output;
 }

@@ -58,3 +58,15 @@ returns-in-Err-clause-goes g c =
     let failed = c.in-Err.ensures.read in
     λ start first going. at_fault _ (g.R.Responder.answered c.args.responder.now) start _ first _ (g.W.Sink.written c.args.output.now) _ c.next_line.new.self _ going failed.0 failed.1
     c.next_line.ensures.lines c.next_line.ensures.bytes
+
+pub returns-in-Whole-clause-flushed : goal.returns-in-Whole-clause-flushed
+returns-in-Whole-clause-flushed g c = λ end flushed. c.in-Whole.ensures.flushed (λ other. cc) flushed
+
+pub returns-in-Unanswered-clause-flushed : goal.returns-in-Unanswered-clause-flushed
+returns-in-Unanswered-clause-flushed g c = λ end flushed. c.in-Unanswered.ensures.flushed (λ other. cc) flushed
+
+pub returns-in-Whole-reply_to-clause-flushed : goal.returns-in-Whole-reply_to-clause-flushed
+returns-in-Whole-reply_to-clause-flushed g c = λ end flushed. c.in-Whole-reply_to.ensures.flushed (λ other. cc) flushed
+
+pub returns-in-Unanswered-reply_to-clause-flushed : goal.returns-in-Unanswered-reply_to-clause-flushed
+returns-in-Unanswered-reply_to-clause-flushed g c = λ end flushed. c.in-Unanswered-reply_to.ensures.flushed (λ other. cc) flushed

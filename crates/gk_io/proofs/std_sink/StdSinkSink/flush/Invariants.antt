@@ -1,5 +1,6 @@
 use Rattle.std.proofs.Common.{◌≡◌}
+use Rattle.std.specs.Io.KnownBytes.{Keeps}
 use Rattle.gk_io.proofs.std_sink.StdSinkSink.flush.Given as goal
 
 abbrev pub invariant-loop-turn : goal.invariant-loop-turn
-invariant-loop-turn g l = l.self.faults ≡ l.fn.self.faults
+invariant-loop-turn g l = record { faults : l.self.faults ≡ l.fn.self.faults; kept : Keeps (g.W.Write.contents l.fn.self.inner) (g.W.Write.contents l.self.inner) }

@@ -1,4 +1,4 @@
-use Rattle.std.proofs.Common.{subst, arith}
+use Rattle.std.proofs.Common.{◌∙◌, subst, arith}
 use Rattle.std.proofs.lemmas.Bool.Decides.{nat_tests}
 use Rattle.line_reader.specs.Reading.{stream, IsRun}
 use Rattle.line_reader.proofs.PartLemmas.{part_ready, part_grows, line_ends, ready_kept}
@@ -20,5 +20,6 @@ loop-self-preserved g c =
       part = part_grows start c.ready.new.self c.take_run.new.self _ part
           (grind (arith, nat_tests, c.if-self-eq-LINE_LIMIT.false, c.ready.new.self.lines_within))
           (subst (IsRun c.ready.new.self c.take_run.new.self) c.if-take_run.false c.take_run.ensures);
+      telling = c.ready.ensures.telling ∙ c.loop-self.invariant.telling;
       later = grind (arith, c.loop-self.invariant.later, c.ready.ensures.later);
     }

@@ -1,10 +1,11 @@
-use Rattle.std.proofs.Common.{◌-◌, ◌≤◌}
+use Rattle.std.proofs.Common.{◌≡◌, is_some, ◌-◌, ◌≤◌}
 use Rattle.line_reader.specs.Reading.{held, stream, IsPart}
 use Rattle.line_reader.proofs.reader.LineReader.next_line.Given as goal
 
 abbrev pub invariant-loop-self : goal.invariant-loop-self
 invariant-loop-self g l = record {
   part : IsPart (stream l.fn.self (g.S.Source.left l.fn.source)) (stream l.self (g.S.Source.left l.source)) (held l.self);
+  telling : is_some (g.S.Source.left l.source) ≡ is_some (g.S.Source.left l.fn.source);
   later : g.S.Source.faults l.fn.source ≤ g.S.Source.faults l.source;
 }
 

@@ -1,0 +1,217 @@
+//! Sessions over devices in memory, and over devices of these tests' own.
+
+ghost use Rattle.std.specs.Prelude.{ℕ, List, None};
+
+use super::{Ended, Responder, run_session};
+use gk_io::{CallNumbers, Failed, MemorySink, MemorySource, Sink, Source};
+use req_tree::LineText;
+use std::alloc::{AllocError, Global};
+use std::test::Fail;
+
+// Answers each line by its first 1,000 bytes, and counts what it answered.
+#[derive(Drop)]
+struct Echo {
+    answers: u64,
+}
+
+impl Responder for Echo {
+    ghost answered = { λ _ _ _. Unit {0} };
+
+    fn answer(
+        &mut self,
+        _alloc: Global,
+        line: &[u8],
+        out: &mut LineText,
+    ) -> Result<(), AllocError> {
+        self.answers = self.answers.saturating_add(1);
+        let count = line.len().min(1_000);
+        out.push_all(&line[..count]);
+        Ok(())
+    }
+}
+
+// Gives the same byte so many times, and tells nothing.
+#[derive(Drop)]
+struct Same {
+    byte: u8,
+    left: usize,
+}
+
+impl Source for Same {
+    ghost left = { λ _. None };
+
+    ghost faults = { λ _. 0 };
+
+    fn read(&mut self, buf: &mut [u8]) -> Result<usize, Failed> {
+        let count = buf.len().min(self.left);
+        for byte in &mut buf[..count] {
+            *byte = self.byte;
+        }
+        self.left -= count;
+        Ok(count)
+    }
+}
+
+// Gives the bytes of another source one at a time, and tells nothing.
+#[derive(Drop)]
+struct Trickle {
+    inner: MemorySource,
+}
+
+impl Source for Trickle {
+    ghost left = { λ _. None };
+
+    ghost use Rattle.gk_io.specs.Memory.{source_faults};
+
+    ghost faults = { λ s. source_faults s.inner };
+
+    fn read(&mut self, buf: &mut [u8]) -> Result<usize, Failed> {
+        let count = buf.len().min(1);
+        self.inner.read(&mut buf[..count])
+    }
+}
+
+// Counts the bytes that are written, and keeps none.
+#[derive(Drop)]
+struct Count {
+    bytes: u64,
+}
+
+impl Sink for Count {
+    ghost written = { λ _. None };
+
+    ghost faults = { λ _. 0 };
+
+    fn put(&mut self, bytes: &[u8]) -> Result<(), Failed> {
+        self.bytes = self.bytes.saturating_add(bytes.len() as u64);
+        Ok(())
+    }
+
+    fn flush(&mut self) -> Result<(), Failed> {
+        Ok(())
+    }
+}
+
+fn failing(alloc: Global, call: u64) -> Result<CallNumbers, AllocError> {
+    let mut numbers = CallNumbers::new(alloc);
+    numbers.push(call)?;
+    Ok(numbers)
+}
+
+// The call that fails, and the replies of an echo to `a LF b LF c` before it, a byte a call.
+const READ_FAILS: [(u64, &[u8], u64); 6] = [
+    (1, b"", 0),
+    (2, b"", 0),
+    (3, b"a\n", 1),
+    (4, b"a\n", 1),
+    (5, b"a\nb\n", 2),
+    (6, b"a\nb\n", 2),
+];
+
+#[test]
+fn each_read_fails_in_turn(rt: HostRuntime) -> Result<(), Fail> {
+    let alloc = rt.alloc();
+    for (call, written, answers) in READ_FAILS {
+        let inner = MemorySource::new(b"a\nb\nc".to_vec(alloc)?, failing(alloc, call)?);
+        let mut input = Trickle { inner };
+        let mut output = MemorySink::with_room(alloc, 100, CallNumbers::new(alloc))?;
+        let mut echo = Echo { answers: 0 };
+        assert_eq!(rt;
+            run_session(alloc, &mut echo, &mut input, &mut output),
+            Ended::ReadFault,
+            "at {call}"
+        );
+        assert_eq!(rt; output.written(), written, "at {call}");
+        assert_eq!(rt; echo.answers, answers, "at {call}");
+    }
+    Ok(())
+}
+
+// The call that fails, what is written before it, and how many lines were answered.
+const WRITE_FAILS: [(u64, &[u8], u64); 6] = [
+    (1, b"", 1),
+    (2, b"a\n", 1),
+    (3, b"a\n", 2),
+    (4, b"a\nb\n", 2),
+    (5, b"a\nb\n", 3),
+    (6, b"a\nb\nc\n", 3),
+];
+
+#[test]
+fn each_write_fails_in_turn(rt: HostRuntime) -> Result<(), Fail> {
+    let alloc = rt.alloc();
+    for (call, written, answers) in WRITE_FAILS {
+        let mut input = MemorySource::new(b"a\nb\nc".to_vec(alloc)?, CallNumbers::new(alloc));
+        let mut output = MemorySink::with_room(alloc, 100, failing(alloc, call)?)?;
+        let mut echo = Echo { answers: 0 };
+        assert_eq!(rt;
+            run_session(alloc, &mut echo, &mut input, &mut output),
+            Ended::WriteFault,
+            "at {call}"
+        );
+        assert_eq!(rt; output.written(), written, "at {call}");
+        assert_eq!(rt; echo.answers, answers, "at {call}");
+    }
+    Ok(())
+}
+
+// Inputs that are read to their end, and the replies of an echo.
+const FINE: [(&[u8], &[u8]); 6] = [
+    (b"", b""),
+    (b"\n", b"\n"),
+    (b"a\nb\nc", b"a\nb\nc\n"),
+    (b"a\r\n\0\n", b"a\r\n\0\n"),
+    (b"\n\n\0", b"\n\n\0\n"),
+    (b"a\nb\n", b"a\nb\n"),
+];
+
+#[test]
+fn each_line_has_its_reply_whatever_the_pieces(rt: HostRuntime) -> Result<(), Fail> {
+    let alloc = rt.alloc();
+    for (bytes, written) in FINE {
+        let mut input = MemorySource::new(bytes.to_vec(alloc)?, CallNumbers::new(alloc));
+        let mut output = MemorySink::with_room(alloc, 100, CallNumbers::new(alloc))?;
+        assert_eq!(rt;
+            run_session(alloc, &mut Echo { answers: 0 }, &mut input, &mut output),
+            Ended::Fine
+        );
+        assert_eq!(rt; output.written(), written);
+        assert_eq!(rt; output.flushed(), written);
+        let inner = MemorySource::new(bytes.to_vec(alloc)?, CallNumbers::new(alloc));
+        let mut output = MemorySink::with_room(alloc, 100, CallNumbers::new(alloc))?;
+        assert_eq!(rt;
+            run_session(
+                alloc,
+                &mut Echo { answers: 0 },
+                &mut Trickle { inner },
+                &mut output
+            ),
+            Ended::Fine
+        );
+        assert_eq!(rt; output.written(), written);
+    }
+    Ok(())
+}
+
+// A byte, how often it comes, and how many lines are answered.
+const LIMITS: [(u8, usize, Ended, u64); 4] = [
+    (b'\n', 1_000_000, Ended::Fine, 1_000_000),
+    (b'\n', 1_000_001, Ended::TooLong, 1_000_000),
+    (b'x', 268_435_456, Ended::Fine, 1),
+    (b'x', 268_435_457, Ended::TooLong, 0),
+];
+
+#[test]
+fn a_session_ends_at_its_limits(rt: HostRuntime) -> Result<(), Fail> {
+    let alloc = rt.alloc();
+    for (byte, left, ended, answers) in LIMITS {
+        let mut echo = Echo { answers: 0 };
+        let mut output = Count { bytes: 0 };
+        assert_eq!(rt;
+            run_session(alloc, &mut echo, &mut Same { byte, left }, &mut output),
+            ended
+        );
+        assert_eq!(rt; echo.answers, answers, "of {left} bytes {byte}");
+    }
+    Ok(())
+}
