@@ -3,3 +3,4 @@ pub mod BlobLemmas
 pub mod SuperLemmas
 pub mod WriterLemmas
 pub mod ReadBack
+pub mod OneFault

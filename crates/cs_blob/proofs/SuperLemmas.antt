@@ -1,11 +1,10 @@
 -- What the reader of super-blobs leans on.
-use Rattle.std.proofs.Common.{◌≡◌, ◌≢◌, ℕ, ◌+◌, ◌*◌, ◌<◌, ◌≤◌, Bool, true, false, List, ◌++◌, length, take, drop, refl, sym, ap, subst, ◌∙◌, arith, ◌⊎◌, inl, inr, Option, None, Some}
-use Rattle.cs_blob.specs.Numbers.{number_at}
-use Rattle.cs_blob.specs.Blobs.{IsBlob, blob_fault}
-use Rattle.cs_blob.specs.SuperBlobs.{IsInside, IsFine, AreFineTo, HasIndex, IsSuperBlob, IndexFails, SuperFails, Overlap, count_of, index_end, kind_at}
+use Rattle.std.proofs.Common.{◌≡◌, ℕ, ◌≤◌, List, ◌++◌, length, sym, subst, arith, inl, inr}
+use Rattle.cs_blob.specs.Blobs.{IsBlob}
+use Rattle.cs_blob.specs.SuperBlobs.{IsSuperBlob, IndexFails, SuperFails, count_of, index_end}
 use Rattle.cs_blob.specs.declared.fault.BlobFault.{BlobFault}
 use Rattle.cs_blob.specs.declared.fault.BlobFault.TheVariants.{Short, BadMagic, BadLength, TooManyParts, PartOutside, PartOverlap, PartTwice}
-use Rattle.cs_blob.proofs.BlobLemmas.{no_fault, whole_is, same_blob, no_blob}
+use Rattle.cs_blob.proofs.BlobLemmas.{no_fault, whole_is, no_blob}
 
 -- an index that fails after the blob was read
 pub fails_behind : (magic : ℕ) (bytes whole rest : List ℕ) (fault : BlobFault) → IsBlob magic whole → bytes ≡ whole ++ rest → IndexFails whole fault → SuperFails magic bytes fault

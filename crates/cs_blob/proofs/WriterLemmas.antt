@@ -1,14 +1,13 @@
 -- A super-blob that was written reads back as its parts.
-use Rattle.std.proofs.Common.{◌≡◌, ◌≢◌, ℕ, suc, zero, ◌+◌, ◌*◌, ◌<◌, ◌≤◌, ◌^◌, Bool, true, false, ◌||◌, ◌==◌, nat_lt, nat_le, if◌then◌else◌, List, [], ◌∷◌, ◌++◌, length, take, drop, refl, sym, ap, subst, ◌∙◌, append_assoc, arith, Option, None, Some, length-append}
+use Rattle.std.proofs.Common.{◌≡◌, ℕ, suc, ◌+◌, ◌*◌, ◌<◌, ◌≤◌, ◌^◌, Bool, true, false, ◌||◌, ◌==◌, nat_lt, nat_le, if◌then◌else◌, List, [], ◌∷◌, ◌++◌, length, refl, sym, ap, subst, ◌∙◌, append_assoc, arith, None, Some, length-append}
 use Rattle.std.proofs.lemmas.Bool.Decides.{nat_tests}
-use Rattle.std.proofs.Math.Seq.{drop-append_seam, drop-append-add}
 use Rattle.byteorder.specs.Numbers.{length-bytes_high_first}
 use Rattle.cs_blob.specs.Numbers.{number_at, word}
-use Rattle.cs_blob.specs.Blobs.{IsSized, IsBlob}
-use Rattle.cs_blob.specs.SuperBlobs.{IsInside, IsFine, HasIndex, IsSuperBlob, Overlap, count_of, index_end, kind_at, offset_at, length_at, part_at}
-use Rattle.cs_blob.specs.Writing.{Draft, has_kind, body_bytes, total_of, add_fault, index_bytes, written, AreParts, IsDraft, Holds}
+use Rattle.cs_blob.specs.Blobs.{IsSized}
+use Rattle.cs_blob.specs.SuperBlobs.{count_of}
+use Rattle.cs_blob.specs.Writing.{Draft, has_kind, body_bytes, total_of, add_fault, index_bytes, written, AreParts, IsDraft}
 use Rattle.cs_blob.specs.declared.fault.WriterFault.TheVariants.{PartTwice, TooManyParts, TooLong}
-use Rattle.cs_blob.proofs.NumberLemmas.{number_at-front, number_at-behind, number_at-written}
+use Rattle.cs_blob.proofs.NumberLemmas.{number_at-behind, number_at-written}
 
 -- a part: its type and its bytes
 abbrev pub Part : Type 0

@@ -1,7 +1,7 @@
 -- A super-blob that is written: its parts one behind the other, without gaps.
 -- (CS_SuperBlob of Apple's cs_blobs.h; the limits on parts and size are this project's own.)
-use Rattle.std.specs.Prelude.{ℕ, ◌≡◌, ◌≢◌, ◌+◌, ◌*◌, ◌<◌, ◌≤◌, ◌^◌, Bool, false, ◌==◌, ◌||◌, nat_lt, nat_le, if◌then◌else◌, List, [], ◌∷◌, ◌++◌, length, Option, None, Some}
-use Rattle.std.specs.List.{list_any, flat_map}
+use Rattle.std.specs.Prelude.{ℕ, ◌≡◌, ◌+◌, ◌*◌, ◌<◌, ◌≤◌, ◌^◌, Bool, false, ◌==◌, nat_lt, nat_le, if◌then◌else◌, List, [], ◌∷◌, ◌++◌, length, Option, None, Some}
+use Rattle.std.specs.List.{list_any}
 use Rattle.cs_blob.specs.Numbers.{word}
 use Rattle.cs_blob.specs.Blobs.{IsSized}
 use Rattle.cs_blob.specs.SuperBlobs.{count_of, kind_at, part_at}

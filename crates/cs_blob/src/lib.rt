@@ -4,8 +4,11 @@
 
 mod blob;
 mod fault;
+pub mod laws;
 mod number;
 mod super_blob;
+#[cfg(test)]
+mod tests;
 mod writer;
 
 pub use blob::Blob;

@@ -1,9 +1,9 @@
 -- Numbers in base 128: the reading takes just what is written, and a number is written in one way.
-use Rattle.std.proofs.Common.{IsTrue, ◌≡◌, ◌≢◌, ℕ, suc, zero, ◌+◌, ◌*◌, ◌-◌, ◌/◌, ◌%◌, ◌^◌, ◌<◌, ◌≤◌, Bool, true, false, ◌==◌, nat_lt, if◌then◌else◌, List, [], ◌∷◌, ◌++◌, length, drop, All, Option, None, Some, refl, sym, ap, subst, ◌∙◌, append_assoc, arith, slice_index, get_or, min}
+use Rattle.std.proofs.Common.{IsTrue, ◌≡◌, ◌≢◌, ℕ, suc, ◌+◌, ◌*◌, ◌-◌, ◌/◌, ◌%◌, ◌^◌, ◌<◌, ◌≤◌, Bool, true, false, ◌==◌, nat_lt, if◌then◌else◌, List, [], ◌∷◌, ◌++◌, length, All, Option, None, Some, refl, sym, ap, subst, ◌∙◌, append_assoc, arith, slice_index, min}
 use Rattle.std.proofs.lemmas.Bool.Decides.{nat_tests}
 use Rattle.std.specs.List.{fold}
-use Rattle.std.proofs.lemmas.List.Elements.{All-nil, All-cons, All-head, All-tail, All-push}
-use Rattle.req_tree.specs.Oid.{base_128, WritesNumber, IsFront, WriteNumbers, IsOid, IsOidBytes, HasNumbers}
+use Rattle.std.proofs.lemmas.List.Elements.{All-nil, All-cons, All-head, All-tail}
+use Rattle.req_tree.specs.Oid.{WritesNumber, WriteNumbers, IsOid, IsOidBytes, HasNumbers}
 use Rattle.req_tree.specs.OidReading.{number_from, number_at}
 
 -- the number after a part of it

@@ -1,5 +1,5 @@
 -- Trees that a text can say, and the one among them that stands for a tree. (This project's own.)
-use Rattle.std.specs.Prelude.{ℕ, ◌≡◌, Bool, true, false, List, [], ◌∷◌, ◌++◌}
+use Rattle.std.specs.Prelude.{◌≡◌, Bool, true, false, List, [], ◌∷◌, ◌++◌}
 use Rattle.std.specs.List.{fold}
 use Rattle.req_tree.specs.declared.matching.Match.TheVariants.{Equal}
 use Rattle.req_tree.specs.Tree as t

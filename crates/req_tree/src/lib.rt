@@ -18,6 +18,8 @@ mod set;
 mod shape;
 mod shared;
 mod subject;
+#[cfg(test)]
+mod tests;
 
 pub use bytes::Bytes;
 pub use fault::{OidBytesFault, OidFault};

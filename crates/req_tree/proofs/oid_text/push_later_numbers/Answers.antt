@@ -1,4 +1,4 @@
-use Rattle.std.proofs.Common.{sym, ap, ◌∙◌, subst}
+use Rattle.std.proofs.Common.{sym}
 use Rattle.req_tree.proofs.OidTexts.{pushing_more}
 use Rattle.req_tree.proofs.oid_text.push_later_numbers.Goals as goal
 

@@ -1,6 +1,5 @@
-use Rattle.std.proofs.Common.{◌≡◌, ◌+◌, ◌++◌, ℕ, List, length, option_map}
+use Rattle.std.proofs.Common.{◌+◌, length, option_map}
 use Rattle.std.specs.Option.{option_map_or}
-use Rattle.req_tree.specs.Oid.{WriteNumbers}
 use Rattle.req_tree.specs.OidReading as reading
 use Rattle.req_tree.proofs.OidTexts.{Pushing}
 use Rattle.req_tree.proofs.oid_text.push_later_numbers.Given as goal

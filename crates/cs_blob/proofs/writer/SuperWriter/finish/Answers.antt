@@ -1,4 +1,4 @@
-use Rattle.std.proofs.Common.{List, ℕ, subst}
+use Rattle.std.proofs.Common.{subst}
 use Rattle.cs_blob.specs.Writing.{Draft, Holds}
 use Rattle.cs_blob.specs.SuperBlobs.{IsSuperBlob}
 use Rattle.cs_blob.proofs.ReadBack.{reads_back_as}
