@@ -66,20 +66,36 @@ fn a_part_is_a_slice_of_the_bytes(rt: HostRuntime) -> Result<(), Fail> {
 #[test]
 fn what_is_written_reads_back(rt: HostRuntime) -> Result<(), Fail> {
     let alloc = rt.alloc();
-    let part = b"\xfa\xde\x0c\x00\0\0\0\x10\0\0\0\x01\0\0\0\x01";
+    let always = Blob::read(
+        b"\xfa\xde\x0c\x00\0\0\0\x10\0\0\0\x01\0\0\0\x01",
+        REQUIREMENT,
+    )?;
     let mut writer = SuperWriter::new(alloc, SET);
-    writer.add(alloc, 3, part)?;
-    assert_eq!(rt; writer.add(alloc, 3, part), Err(WriterFault::PartTwice));
+    writer.add(alloc, 3, always.whole())?;
+    assert_eq!(rt;
+        writer.add(alloc, 3, always.whole()),
+        Err(WriterFault::PartTwice)
+    );
     assert_eq!(rt; writer.finish()?.as_slice(), SETS[9].0);
+    Ok(())
+}
+
+#[test]
+fn there_is_room_for_64_parts(rt: HostRuntime) -> Result<(), Fail> {
+    let alloc = rt.alloc();
+    let part = Blob::read(b"\xfa\xde\x0c\x00\0\0\0\x08", REQUIREMENT)?;
     let mut writer = SuperWriter::new(alloc, SET);
     for kind in 0..64 {
-        writer.add(alloc, kind, part)?;
+        writer.add(alloc, kind, part.whole())?;
     }
-    assert_eq!(rt; writer.add(alloc, 64, part), Err(WriterFault::TooManyParts));
+    assert_eq!(rt;
+        writer.add(alloc, 64, part.whole()),
+        Err(WriterFault::TooManyParts)
+    );
     let whole = writer.finish()?;
     assert_eq!(rt;
         SuperBlob::read(whole.as_slice(), SET)?.part(63),
-        Some(part.as_slice())
+        Some(part.whole())
     );
     Ok(())
 }
