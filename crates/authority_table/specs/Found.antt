@@ -7,9 +7,11 @@ use Rattle.policy_model.specs.Rules.{Row, Kind, Governs, IsLatent}
 use Rattle.authority_table.specs.declared.found.Found.{Found}
 use Rattle.authority_table.specs.Rule.{row_of}
 
+-- the row of the enabled rule that was found
 abbrev pub governing_row : Found → Option Row
 governing_row f = option_map row_of (option_copied f.governing)
 
+-- the row of the disabled rule that was found
 abbrev pub latent_row : Found → Option Row
 latent_row f = option_map row_of (option_copied f.latent)
 

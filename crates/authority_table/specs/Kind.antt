@@ -3,6 +3,7 @@ use Rattle.authority_table.specs.declared.kind.Kind as code
 use Rattle.authority_table.specs.declared.kind.Kind.TheVariants.{Execute, Install, Document}
 use Rattle.policy_model.specs.Rules.{Kind, execute, install, document}
 
+-- execute, install or document
 abbrev pub kind_of : code.Kind → Kind
 kind_of Execute = execute
 kind_of Install = install

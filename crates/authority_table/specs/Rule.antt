@@ -5,6 +5,7 @@ use Rattle.authority_table.specs.declared.rule.Rule.{Rule}
 use Rattle.authority_table.specs.Kind.{kind_of}
 use Rattle.authority_table.specs.Label.{label_bytes}
 
+-- a rule as a row: field by field, the requirement as its tree
 abbrev pub row_of : Rule → Row
 row_of r = record {
   id = r.id;
@@ -20,5 +21,6 @@ row_of r = record {
   tree = r.tree;
 }
 
+-- rules as rows, in their order
 abbrev pub rows_of : List Rule → List Row
 rows_of rules = map row_of rules

@@ -7,6 +7,7 @@ use Rattle.desk_state.specs.declared.answer.Answer as code
 use Rattle.desk_state.specs.declared.fault.EditFault as fault
 use Rattle.desk_state.specs.declared.fault.EditFault.TheVariants.{KeyReused, TableFull, OutOfMemory}
 
+-- made, or made before
 abbrev pub answer_of : code.Answer → model.Answer
 answer_of a = if a.repeated then repeated a.number a.rules else done a.number a.rules
 

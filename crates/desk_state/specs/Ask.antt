@@ -5,5 +5,6 @@ use Rattle.authority_table.specs.Kind.{kind_of}
 use Rattle.policy_model.specs.Outcomes.{Ask}
 use Rattle.desk_state.specs.declared.ask.Ask as code
 
+-- kind, subject and whether the outcome may be kept
 abbrev pub ask_of : code.Ask → Ask
 ask_of a = record { kind = kind_of a.kind; subject = option_map subject_of a.subject; keep = a.keep }

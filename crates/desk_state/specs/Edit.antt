@@ -9,6 +9,7 @@ use Rattle.desk_state.specs.declared.edit.Content.TheVariants.{Add}
 use Rattle.desk_state.specs.declared.edit.Edit as code
 use Rattle.desk_state.specs.EditKey.{key_bytes}
 
+-- the rule that an edit adds, field by field, the requirement as its tree
 abbrev pub new_row : NewRule → NewRow
 new_row r = record {
   kind = kind_of r.kind;
@@ -22,8 +23,10 @@ new_row r = record {
   tree = r.tree;
 }
 
+-- what the edit does
 abbrev pub content_of : code_content.Content → Content
 content_of (Add rule) = add (new_row rule)
 
+-- key and content
 abbrev pub edit_of : code.Edit → Edit
 edit_of e = record { key = key_bytes e.key; content = content_of e.content }

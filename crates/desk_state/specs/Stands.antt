@@ -9,9 +9,11 @@ use Rattle.desk_state.specs.declared.receipt.Receipt.{Receipt}
 use Rattle.desk_state.specs.declared.desk.Desk.{Desk}
 use Rattle.desk_state.specs.Receipt.{receipt_of, receipts_of}
 
+-- the rules, the receipts and the switch of a desk
 abbrev pub tables : Desk → Tables
 tables d = record { rows = rows_of d.table; receipts = receipts_of d.receipts; enabled = d.enabled }
 
+-- the moment of a desk
 abbrev pub moment_of : Desk → ℕ
 moment_of d = d.moment
 

@@ -4,10 +4,10 @@ use Rattle.std.specs.Fmt.{digits}
 use Rattle.hex.specs.Hex.{decode_pairs}
 use Rattle.req_tree.specs.Tree.{always}
 use Rattle.req_tree.specs.Facts.{no_facts}
-use Rattle.policy_model.specs.Rules.{execute}
+use Rattle.policy_model.specs.Rules.{execute, Row}
 use Rattle.policy_model.specs.Outcomes.{Ask}
 use Rattle.policy_model.specs.Texts.{places, add_front, content_text, add, remove, disable, enable, switch, by_id, by_label, priority_text}
-use Rattle.policy_model.specs.Edits.{Edit}
+use Rattle.policy_model.specs.Edits.{Edit, Tables, does}
 use Rattle.policy_model.specs.History.{Event, tick, edit, fresh, edit_answer, ask_answer}
 use Rattle.policy_model.specs.Lines.{request_of, not_built}
 use Rattle.policy_model.specs.Replies.{verdict_text, answer_text, origin_on}
@@ -116,3 +116,32 @@ unsigned = refl
 half : priority_text (pos 20500000) ≡ codes "20.5"
 unfolding digits places
 half = refl
+
+-- rows of ids 2 and 1, both disabled 1,000 times, in no order
+abbrev worn : Tables
+worn = record {
+  rows = row 2 ∷ row 1 ∷ [];
+  receipts = [];
+  enabled = true;
+}
+  where
+    row : ℕ → Row
+    row id = record {
+      id = id;
+      kind = execute;
+      allow = true;
+      disabled = 1000;
+      expires = None;
+      priority = pos 0;
+      is_default = false;
+      inhibit = false;
+      label = codes "worn";
+      text = codes "always";
+      tree = always;
+    }
+
+-- a rule is disabled 1,000 times at most, and the refusal names the least id of those that were
+disabled_too_often : answer_text (does worn (record { key = codes "k"; content = disable (record { which = by_label (codes "worn"); kind = None }) })).answer
+    ≡ codes "refused edit 15 DisableFull rule=1"
+unfolding digits
+disabled_too_often = refl

@@ -1,6 +1,7 @@
 -- What an edit does to the tables. This project's own, after --add, --remove, --enable, --disable of spctl(8).
-use Rattle.std.specs.Prelude.{ℕ, ◌+◌, List, [], ◌∷◌, ◌++◌, map, Bool, true, not, ◌&&◌, ◌==◌, length, Option, Some, None, if◌then◌else◌, nat_lt, nat_le, bytes_eq}
+use Rattle.std.specs.Prelude.{ℕ, ◌+◌, List, [], ◌∷◌, ◌++◌, map, Bool, true, not, ◌&&◌, ◌==◌, length, Option, Some, None, if◌then◌else◌, nat_lt, nat_le, min, bytes_eq}
 use Rattle.std.specs.List.{find, filter, list_any}
+use Rattle.std.specs.Option.{option_or, option_map}
 use Rattle.policy_model.specs.Rules.{Row, Kind, same_kind}
 use Rattle.policy_model.specs.Texts.{NewRow, Which, by_id, by_label, Selector, Content, add, remove, enable, disable, expire, switch, content_text}
 
@@ -38,14 +39,17 @@ pub record Effect : Type 0 where
   pub tables : Tables
   pub touched : List Row
 
+-- the row has the id or the label
 abbrev pub named_by : Which → Row → Bool
 named_by (by_id n) r = r.id == n
 named_by (by_label l) r = bytes_eq r.label l
 
+-- the row is of the kind, or any kind will do
 abbrev pub in_kind : Option Kind → Row → Bool
 in_kind None r = true
 in_kind (Some k) r = same_kind r.kind k
 
+-- the row is one of those that a selector names
 abbrev pub selects : Selector → Row → Bool
 selects s r = named_by s.which r && in_kind s.kind r
 
@@ -65,9 +69,11 @@ row_of id n = record {
   tree = n.tree;
 }
 
+-- the row, disabled so many times
 abbrev pub with_count : ℕ → Row → Row
 with_count n r = record r { disabled = n }
 
+-- the row with another end, or with none
 abbrev pub with_expiry : Option ℕ → Row → Row
 with_expiry m r = record r { expires = m }
 
@@ -93,6 +99,7 @@ touched_by n (disable s) rows = filter (selects s) rows
 touched_by n (expire s m) rows = filter (selects s) rows
 touched_by n (switch on) rows = []
 
+-- whether assessments are switched on after the edit
 abbrev pub switch_after : Content → Bool → Bool
 switch_after (add r) enabled = enabled
 switch_after (remove s) enabled = enabled
@@ -105,6 +112,7 @@ switch_after (switch on) enabled = on
 abbrev pub kept : List Receipt → List ℕ → Option Receipt
 kept receipts key = find (λ r. bytes_eq r.key key) receipts
 
+-- refused where no row is selected
 abbrev pub none_selected : Selector → List Row → Option Answer
 none_selected s rows = if list_any (selects s) rows then None else Some no_rule
 
@@ -117,33 +125,42 @@ refused_by_rows (disable s) rows = none_selected s rows
 refused_by_rows (expire s m) rows = none_selected s rows
 refused_by_rows (switch on) rows = None
 
+-- at most 100,000 edits are ever accepted
 abbrev pub refused_by_receipts : List Receipt → Option Answer
 refused_by_receipts receipts = if nat_lt (length receipts) 100000 then None else Some receipts_full
 
--- of the selected rows that were disabled 1,000 times the first (ids rise, so it has the least id)
-abbrev pub full_count : Content → List Row → Option Row
-full_count (add r) rows = None
-full_count (remove s) rows = None
-full_count (enable s) rows = None
-full_count (disable s) rows = find (λ r. selects s r && nat_le 1000 r.disabled) rows
-full_count (expire s m) rows = None
-full_count (switch on) rows = None
+-- the rows that were disabled 1,000 times, of those that an edit would disable once more
+abbrev pub full_rows : Content → List Row → List Row
+full_rows (add r) rows = []
+full_rows (remove s) rows = []
+full_rows (enable s) rows = []
+full_rows (disable s) rows = filter (λ r. selects s r && nat_le 1000 r.disabled) rows
+full_rows (expire s m) rows = []
+full_rows (switch on) rows = []
 
-abbrev pub refused_by_count : Option Row → Option Answer
-refused_by_count None = None
-refused_by_count (Some r) = Some (disable_full r.id)
+-- the lesser of an id and one that may be there
+abbrev pub lesser_id : ℕ → Option ℕ → ℕ
+lesser_id n None = n
+lesser_id n (Some m) = min n m
 
-abbrev pub or_else : Option Answer → Option Answer → Option Answer
-or_else None b = b
-or_else (Some a) b = Some a
+-- the least id of some rows
+abbrev pub least_id : List Row → Option ℕ
+least_id [] = None
+least_id (r ∷ rows) = Some (lesser_id r.id (least_id rows))
+
+-- refused where the count of a selected row is full, with the least id of such
+abbrev pub refused_by_count : Content → List Row → Option Answer
+refused_by_count c rows = option_map disable_full (least_id (full_rows c rows))
 
 -- why an edit under a new key is refused: the first of these that holds
 abbrev pub refusal : Content → Tables → Option Answer
-refusal c t = or_else (refused_by_rows c t.rows) (or_else (refused_by_receipts t.receipts) (refused_by_count (full_count c t.rows)))
+refusal c t = option_or (refused_by_rows c t.rows) (option_or (refused_by_receipts t.receipts) (refused_by_count c t.rows))
 
+-- an answer that changes nothing and touches no row
 abbrev pub stays : Answer → Tables → Effect
 stays a t = record { answer = a; tables = t; touched = [] }
 
+-- the edit of number n, which touches these rows
 abbrev pub accepted : ℕ → List Row → Edit → Tables → Effect
 accepted n touched e t = record {
   answer = done n (length touched);
@@ -159,10 +176,12 @@ accepted n touched e t = record {
 abbrev pub at_kept : Receipt → Edit → Answer
 at_kept r e = if bytes_eq r.content (content_text e.content) then repeated r.number r.rules else key_reused r.number r.rules
 
+-- under a new key: refused, or accepted with the next number
 abbrev pub at_new : Option Answer → Edit → Tables → Effect
 at_new (Some a) e t = stays a t
 at_new None e t = accepted (length t.receipts + 1) (touched_by (length t.receipts + 1) e.content t.rows) e t
 
+-- under a key that is kept, or under a new one
 abbrev pub does_at : Option Receipt → Edit → Tables → Effect
 does_at (Some r) e t = stays (at_kept r e) t
 does_at None e t = at_new (refusal e.content t) e t

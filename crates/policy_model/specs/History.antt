@@ -26,6 +26,7 @@ pub record Opening : Type 0 where
   pub entries : List Entry
   pub counts : Counts
 
+-- what happens on a desk; an edit that was refused is answered too
 pub data Event : Type 0 where
   -- a moment was handed in
   tick : ℕ → Event
@@ -42,6 +43,7 @@ pub data Event : Type 0 where
   -- the status or the list was read
   look : Event
 
+-- the tables after an event: an answered edit alone changes them
 abbrev pub tables_step : Event → Tables → Tables
 tables_step (tick m) t = t
 tables_step (ask a) t = t
@@ -51,6 +53,7 @@ tables_step (edit_failed e) t = t
 tables_step (edit_starved e) t = t
 tables_step look t = t
 
+-- the moment after an event: a tick alone moves it, and never back
 abbrev pub now_step : Event → ℕ → ℕ
 now_step (tick m) now = max now m
 now_step (ask a) now = now
@@ -60,10 +63,12 @@ now_step (edit_failed e) now = now
 now_step (edit_starved e) now = now
 now_step look now = now
 
+-- the tables after some events
 abbrev pub tables_after : List Event → Tables → Tables
 tables_after [] t = t
 tables_after (e ∷ es) t = tables_after es (tables_step e t)
 
+-- the moment after some events
 abbrev pub now_after : List Event → ℕ → ℕ
 now_after [] now = now
 now_after (e ∷ es) now = now_after es (now_step e now)

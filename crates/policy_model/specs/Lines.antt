@@ -6,6 +6,7 @@ use Rattle.policy_model.specs.Texts.{add}
 use Rattle.policy_model.specs.Edits.{Edit}
 use Rattle.policy_model.specs.Words.{words, spaced, moment_word, expiry_word, kind_word, allow_word, priority_word, dash_word, key_word, hash_word, identifier_word, platform_word}
 
+-- what a line asks for
 pub data Request : Type 0 where
   tick : ℕ → Request
   assess : Ask → Request
@@ -58,6 +59,7 @@ add_words =
     word dash_word (λ label. word dash_word (λ flags. requirement_rest (λ text tree.
     edit (record { key = key; content = add (record { kind = kind; allow = allow; priority = priority; expires = expires; label = label; is_default = false; inhibit = false; text = text; tree = tree }) })))))))))
 
+-- a line by its first word
 abbrev pub request_of_words : List (List ℕ) → Option Request
 request_of_words [] = None
 request_of_words (w ∷ ws) =

@@ -11,6 +11,7 @@ pub data Outcome : Type 0 where
   governed : Rank → Bool → List ℕ → Bool → Option ℕ → Outcome
   default : Option ℕ → List ℕ → ℕ → Outcome
 
+-- the label of a default denial: that of the latent rule, if there is one
 abbrev pub latent_label : Option Row → List ℕ
 latent_label None = codes "no matching rule"
 latent_label (Some r) = r.label
@@ -20,6 +21,7 @@ abbrev pub at_most : ℕ → Option ℕ → ℕ
 at_most m None = m
 at_most m (Some e) = min m e
 
+-- the end of a row that may be there
 abbrev pub expiry_of : Option Row → Option ℕ
 expiry_of None = None
 expiry_of (Some r) = r.expires
@@ -32,6 +34,7 @@ governed_until rows kind m r = r.expires
 abbrev pub default_until : List Row → Kind → ℕ → Option Row → ℕ
 default_until rows kind m latent = at_most (m + 60) (expiry_of latent)
 
+-- the outcome of a rule that governs, or of none and a latent one
 abbrev pub outcome_by : List Row → Kind → ℕ → Option Row → Option Row → Outcome
 outcome_by rows kind m (Some r) latent = governed (rank_of r) r.allow r.label r.inhibit (governed_until rows kind m r)
 outcome_by rows kind m None latent = default (option_map (λ r. r.id) latent) (latent_label latent) (default_until rows kind m latent)
@@ -61,6 +64,7 @@ abbrev pub decided : Bool → ℕ → Bool → Option ℕ → Option ℕ → Lis
 decided enabled m allow rule latent label =
     record { allow = allow || not enabled; at = m; rule = rule; latent = latent; label = label; overridden = not allow && not enabled }
 
+-- the verdict of an outcome, at moment m
 abbrev pub verdict_by : Bool → ℕ → Outcome → Verdict
 verdict_by enabled m (governed rank allow label inhibit until) = decided enabled m allow (Some rank.id) None label
 verdict_by enabled m (default latent label until) = decided enabled m false None latent label

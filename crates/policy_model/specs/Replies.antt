@@ -16,6 +16,7 @@ abbrev pub origin_on : Option Subject → Origin
 origin_on None = unsigned
 origin_on (Some s) = rules
 
+-- the word behind source=
 abbrev pub origin_text : Origin → List ℕ
 origin_text rules = codes "rules"
 origin_text cache = codes "cache"
@@ -32,12 +33,15 @@ abbrev pub number_text : Option ℕ → List ℕ
 number_text None = codes "none"
 number_text (Some n) = decimal n
 
+-- the first word of a verdict
 abbrev pub accepted_text : Bool → List ℕ
 accepted_text allow = if allow then codes "accepted" else codes "rejected"
 
+-- the word behind override=
 abbrev pub override_text : Bool → List ℕ
 override_text overridden = if overridden then codes "security%20disabled" else codes "none"
 
+-- the reply to an assessment
 unfoldable pub verdict_text : Verdict → Origin → List ℕ
 verdict_text v origin =
     accepted_text v.allow ++ codes " at=" ++ decimal v.at ++ codes " rule=" ++ number_text v.rule ++ codes " latent=" ++ number_text v.latent
@@ -48,6 +52,7 @@ verdict_text v origin =
 abbrev pub numbers_text : ℕ → ℕ → List ℕ
 numbers_text number count = codes " edit=" ++ decimal number ++ codes " rules=" ++ decimal count
 
+-- the reply to an edit
 abbrev pub answer_text : Answer → List ℕ
 answer_text (done n k) = codes "ok" ++ numbers_text n k
 answer_text (repeated n k) = codes "repeated" ++ numbers_text n k

@@ -14,6 +14,7 @@ pub data Kind : Type 0 where
   install : Kind
   document : Kind
 
+-- two kinds are one
 abbrev pub same_kind : Kind → Kind → Bool
 same_kind execute execute = true
 same_kind install install = true
@@ -39,6 +40,7 @@ pub record Row : Type 0 where
   pub text : List ℕ
   pub tree : Tree
 
+-- the rank of a row
 abbrev pub rank_of : Row → Rank
 rank_of r = record { priority = r.priority; id = r.id }
 
@@ -67,6 +69,7 @@ pub record IsFirst (P : Row → Type 0) (rows : List Row) (r : Row) : Type 0 whe
   pub itself : P r
   pub first : All (λ s. P s → Before (rank_of s) (rank_of r) → ⊥) rows
 
+-- no row has the property
 abbrev pub HasNone : (Row → Type 0) → List Row → Type 0
 HasNone P rows = All (λ s. P s → ⊥) rows
 
@@ -84,6 +87,7 @@ IsLatent rows kind subject facts m o = IsFirstOf (Meets true kind subject facts 
 
 -- the same as tests that compute, which the laws tie to the facts above
 
+-- Before as a test
 abbrev pub is_before : Rank → Rank → Bool
 is_before a b = int_lt b.priority a.priority || (int_eq a.priority b.priority && nat_lt a.id b.id)
 
@@ -92,12 +96,15 @@ abbrev pub is_below : ℕ → Option ℕ → Bool
 is_below m None = true
 is_below m (Some e) = nat_lt m e
 
+-- disabled at least once, or never, as asked
 abbrev pub is_counted : Bool → ℕ → Bool
 is_counted disabled n = if disabled then nat_lt 0 n else not (nat_lt 0 n)
 
+-- Meets as a test
 abbrev pub meets : Bool → Kind → Subject → Facts → ℕ → Row → Bool
 meets disabled kind subject facts m r = same_kind r.kind kind && is_below m r.expires && is_counted disabled r.disabled && mean r.tree subject facts
 
+-- of a row and another that may be there, the one that is tried first
 abbrev pub sooner : Row → Option Row → Row
 sooner r None = r
 sooner r (Some s) = if is_before (rank_of s) (rank_of r) then s else r

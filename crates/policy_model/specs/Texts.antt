@@ -4,11 +4,13 @@ use Rattle.req_tree.specs.Tree.{Tree}
 use Rattle.req_tree.specs.WordText.{word_text}
 use Rattle.policy_model.specs.Rules.{Kind, execute, install, document}
 
+-- the word for a kind
 abbrev pub kind_text : Kind → List ℕ
 kind_text execute = codes "execute"
 kind_text install = codes "install"
 kind_text document = codes "open"
 
+-- the word for a verdict
 abbrev pub verdict_word : Bool → List ℕ
 verdict_word allow = if allow then codes "allow" else codes "deny"
 
@@ -31,6 +33,7 @@ abbrev pub priority_text : ℤ → List ℕ
 priority_text p =
     (if int_lt p (pos 0) then 45 ∷ [] else []) ++ decimal (unsigned_abs p / 1000000) ++ fraction_text (unsigned_abs p % 1000000)
 
+-- the word for the two flags, or - for none
 abbrev pub flags_text : Bool → Bool → List ℕ
 flags_text is_default inhibit =
     if is_default then (if inhibit then codes "default+inhibit" else codes "default") else if inhibit then codes "inhibit" else codes "-"
@@ -47,6 +50,7 @@ pub record NewRow : Type 0 where
   pub text : List ℕ
   pub tree : Tree
 
+-- an id or a label
 pub data Which : Type 0 where
   by_id : ℕ → Which
   by_label : List ℕ → Which
@@ -56,6 +60,7 @@ pub record Selector : Type 0 where
   pub which : Which
   pub kind : Option Kind
 
+-- what an edit asks for
 pub data Content : Type 0 where
   add : NewRow → Content
   remove : Selector → Content
@@ -64,14 +69,17 @@ pub data Content : Type 0 where
   expire : Selector → Option ℕ → Content
   switch : Bool → Content
 
+-- the two words of an id or a label
 abbrev pub which_text : Which → List ℕ
 which_text (by_id n) = codes "id " ++ decimal n
 which_text (by_label l) = codes "label " ++ word_text l
 
+-- the word for a kind, or any
 abbrev pub any_kind_text : Option Kind → List ℕ
 any_kind_text None = codes "any"
 any_kind_text (Some k) = kind_text k
 
+-- the three words of a selector
 abbrev pub selector_text : Selector → List ℕ
 selector_text s = which_text s.which ++ codes " " ++ any_kind_text s.kind
 

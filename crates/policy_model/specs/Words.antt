@@ -1,9 +1,9 @@
 -- The words of a line, and what each stands for. This project's own.
-use Rattle.std.specs.Prelude.{ℕ, ◌+◌, ◌-◌, ◌*◌, ℤ, pos, neg_ℤ, List, [], ◌∷◌, length, fold, Bool, true, false, ◌&&◌, ◌||◌, not, ◌==◌, nat_le, Option, Some, None, option_map, Result, Ok, Err, if◌then◌else◌, codes, bytes_eq}
+use Rattle.std.specs.Prelude.{ℕ, ◌+◌, ◌-◌, ◌*◌, ℤ, pos, neg_ℤ, List, [], ◌∷◌, length, fold, Bool, true, false, ◌&&◌, ◌||◌, not, ◌==◌, nat_le, Option, Some, None, option_map, if◌then◌else◌, codes, bytes_eq}
 use Rattle.std.specs.List.{slice_split, join_with_byte, list_all}
 use Rattle.std.specs.Char.{is_ascii_digit}
+use Rattle.std.specs.Result.{result_ok}
 use Rattle.hex.specs.Hex.{decode_sized}
-use Rattle.hex.specs.declared.error.FromHexError.{FromHexError}
 use Rattle.req_tree.specs.WordText.{is_plain}
 use Rattle.policy_model.specs.Rules.{Kind, execute, install, document}
 
@@ -33,6 +33,7 @@ moment_word word = number_word 12 253402300799 word
 abbrev pub expiry_word : List ℕ → Option (Option ℕ)
 expiry_word word = if bytes_eq word (codes "never") then Some None else option_map Some (moment_word word)
 
+-- the kind of a word
 abbrev pub kind_word : List ℕ → Option Kind
 kind_word word =
     if bytes_eq word (codes "execute") then Some execute
@@ -62,24 +63,23 @@ abbrev pub is_key_byte : ℕ → Bool
 is_key_byte b =
     (nat_le 97 b && nat_le b 122) || (nat_le 65 b && nat_le b 90) || is_ascii_digit b || (b == 46) || (b == 95) || (b == 45)
 
+-- 1 to 64 such bytes
 abbrev pub is_key : List ℕ → Bool
 is_key word = nat_le 1 (length word) && nat_le (length word) 64 && list_all is_key_byte word
 
+-- an edit's key, which stands for itself
 abbrev pub key_word : List ℕ → Option (List ℕ)
 key_word word = if is_key word then Some word else None
 
-abbrev pub good : Result (List ℕ) FromHexError → Option (List ℕ)
-good (Ok bytes) = Some bytes
-good (Err e) = None
-
 -- 40 hexadecimal digits
 abbrev pub hash_word : List ℕ → Option (List ℕ)
-hash_word word = good (decode_sized word 20)
+hash_word word = result_ok (decode_sized word 20)
 
 -- an identifier that stands for itself
 abbrev pub identifier_word : List ℕ → Option (List ℕ)
 identifier_word word =
     if nat_le 1 (length word) && nat_le (length word) 256 && list_all is_plain word && not (bytes_eq word (codes "-")) then Some word else None
 
+-- a number up to 255, of 1 to 3 digits
 abbrev pub platform_word : List ℕ → Option ℕ
 platform_word word = number_word 3 255 word
