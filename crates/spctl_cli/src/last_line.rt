@@ -1,9 +1,9 @@
 //! The line that ends the output of a run.
 
-ghost use Rattle.std.specs.Prelude.{◌≤◌, length, OnErr};
+ghost use Rattle.std.specs.Prelude.{◌≡◌, ◌≤◌, length, OnOk, OnErr, is_some};
 ghost use Rattle.req_tree.specs.LineText.{line_bytes};
 ghost use Rattle.gk_io.specs.Faults.{Rose};
-ghost use Rattle.gk_io.specs.Told.{PutAppends};
+ghost use Rattle.gk_io.specs.Told.{IsFlushed, PutAppends};
 ghost use Rattle.line_reader.specs.Lines.{with_lf};
 
 use gk_io::{Failed, Sink};
@@ -13,6 +13,8 @@ use req_tree::LineText;
 pub fn write_last<W: Sink>(output: &mut W, text: &[u8]) -> Result<(), Failed>
     requires { length text.now ≤ 1000 }
     ensures bytes { PutAppends (W.written output.old) (W.written output.new) result (with_lf text.now) }
+    ensures flushed { OnOk result (IsFlushed (W.flushed output.new) (W.written output.new)) }
+    ensures telling { is_some (W.written output.new) ≡ is_some (W.written output.old) }
     ensures later { W.faults output.old ≤ W.faults output.new }
     ensures cause { OnErr result (Rose (W.faults output.old) (W.faults output.new)) }
 {

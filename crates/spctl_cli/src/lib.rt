@@ -9,6 +9,8 @@ mod laws;
 mod request;
 mod requirement;
 mod status;
+#[cfg(test)]
+mod tests;
 mod top;
 
 pub use desk_lines::DeskLines;

@@ -1,7 +1,8 @@
 //! All that the program does.
 
-ghost use Rattle.std.specs.Prelude.{◌≡◌, ◌≢◌, ◌⊎◌, ◌≤◌, ◌↔◌, ℕ, List, Option, Some, IsSome};
+ghost use Rattle.std.specs.Prelude.{◌≡◌, ◌≢◌, ◌⊎◌, ◌≤◌, ◌↔◌, ℕ, List, Option, Some, IsSome, is_some};
 ghost use Rattle.gk_io.specs.Faults.{Rose};
+ghost use Rattle.gk_io.specs.Told.{IsFlushed};
 ghost use Rattle.line_reader.specs.Limits.{IsWithin};
 ghost use Rattle.spctl_cli.specs.CommandLine.{IsSessionCommand};
 ghost use Rattle.spctl_cli.specs.Headline.{IsSession};
@@ -35,6 +36,9 @@ pub fn run<S: Source, W: Sink>(
         → UsageEnds (S.left input.old) (S.left input.new)
         (W.written output.old) (W.written output.new) result }
 
+    ensures flushed { result ≢ Status.WriteFault → IsFlushed (W.flushed output.old) (W.written output.old)
+        → IsFlushed (W.flushed output.new) (W.written output.new) }
+
     // The cause of each end. A fault is that of its device, in this call. Want of memory is free; what
     // comes exactly where something holds yields to it, and to a fault of the sink.
     ensures usage_cause { result ≢ Status.WriteFault
@@ -51,6 +55,10 @@ pub fn run<S: Source, W: Sink>(
         → ¬ Rose (S.faults input.old) (S.faults input.new)
         → ¬ Rose (W.faults output.old) (W.faults output.new)
         → (result ≡ Status.Fine) ⊎ (result ≡ Status.OutOfMemory) }
+
+    // Devices tell afterwards what they told before, and their counts don't fall.
+    ensures input_telling { is_some (S.left input.new) ≡ is_some (S.left input.old) }
+    ensures output_telling { is_some (W.written output.new) ≡ is_some (W.written output.old) }
     ensures input_later { S.faults input.old ≤ S.faults input.new }
     ensures output_later { W.faults output.old ≤ W.faults output.new }
 {
@@ -67,8 +75,12 @@ fn session<S: Source, W: Sink>(alloc: Global, input: &mut S, output: &mut W) -> 
         (W.written output.old) (W.written output.new) result }
     ensures within { (bytes : List ℕ) → S.left input.old ≡ Some bytes → IsWithin bytes
         → result ≢ Status.SessionTooLong }
+    ensures flushed { result ≢ Status.WriteFault → IsFlushed (W.flushed output.old) (W.written output.old)
+        → IsFlushed (W.flushed output.new) (W.written output.new) }
     ensures read_cause { result ≡ Status.ReadFault → Rose (S.faults input.old) (S.faults input.new) }
     ensures write_cause { result ≡ Status.WriteFault → Rose (W.faults output.old) (W.faults output.new) }
+    ensures input_telling { is_some (S.left input.new) ≡ is_some (S.left input.old) }
+    ensures output_telling { is_some (W.written output.new) ≡ is_some (W.written output.old) }
     ensures input_later { S.faults input.old ≤ S.faults input.new }
     ensures output_later { W.faults output.old ≤ W.faults output.new }
 {
@@ -92,6 +104,8 @@ fn session<S: Source, W: Sink>(alloc: Global, input: &mut S, output: &mut W) -> 
 fn usage<W: Sink>(output: &mut W) -> Status
     ensures ends { (left : Option (List ℕ))
         → UsageEnds left left (W.written output.old) (W.written output.new) result }
+    ensures flushed { result ≢ Status.WriteFault → IsFlushed (W.flushed output.new) (W.written output.new) }
+    ensures telling { is_some (W.written output.new) ≡ is_some (W.written output.old) }
     ensures write_cause { result ≡ Status.WriteFault → Rose (W.faults output.old) (W.faults output.new) }
     ensures output_later { W.faults output.old ≤ W.faults output.new }
 {
