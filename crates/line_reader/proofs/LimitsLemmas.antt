@@ -1,5 +1,6 @@
 -- Sessions within their limits, and past them.
 use Rattle.std.proofs.Common.{◌≡◌, ℕ, ◌+◌, ◌-◌, ◌<◌, ◌≤◌, ◌⊎◌, inl, inr, List, [], ◌∷◌, ◌++◌, All, length, take, ap, sym, ◌∙◌, subst, length-append, arith}
+use Rattle.std.proofs.lemmas.Bool.{cases_lt}
 use Rattle.std.proofs.lemmas.List.{take_at}
 use Rattle.line_reader.specs.Lines.{lines_of, text_of, HasNoLf}
 use Rattle.line_reader.specs.Limits.{IsWithin, RunsPast}
@@ -49,3 +50,11 @@ pub all_within : (lines : List (List ℕ)) (part behind : List ℕ) → HasNoLf 
     → (length lines ≡ 1000000) ⊎ HasNoLf (take (268435456 - length (text_of lines)) (part ++ behind))
 all_within lines part behind no_lf full =
     elim full [ inl number ↦ inl number | inr size ↦ inr (no_lf_within 268435456 (text_of lines) part behind size no_lf) ]
+
+-- each is one
+pub within_or_past : (bytes : List ℕ) → IsWithin bytes ⊎ RunsPast bytes
+within_or_past bytes =
+    elim (cases_lt 1000000 (length (lines_of bytes))) [
+      | inl lines ↦ inr (inl lines)
+      | inr lines ↦ elim (cases_lt 268435456 (length bytes)) [ inl size ↦ inr (inr size) | inr size ↦ inl (record { lines = lines; size = size }) ]
+    ]

@@ -3,6 +3,7 @@
 
 mod find;
 mod held_line;
+pub mod laws;
 mod line_read;
 mod reader;
 #[cfg(test)]

@@ -1,4 +1,4 @@
-use Rattle.std.proofs.Common.{◌≡◌, is_some, ℕ, ◌-◌, ◌≤◌}
+use Rattle.std.proofs.Common.{◌≡◌, is_some, ◌-◌, ◌≤◌}
 use Rattle.gk_io.specs.Told.{IsFlushed}
 use Rattle.line_reader.specs.Reading.{stream}
 use Rattle.line_session.specs.Turns.{IsGoing}
