@@ -1,4 +1,4 @@
-//! Numbers of the calls of one object that are to fail.
+//! Which calls of a form in memory fail: a test names them by their numbers.
 
 ghost use Rattle.std.specs.Prelude.{◌≡◌, ◌↔◌, ℕ, List, [], ◌∷◌, ◌++◌, OnOk, OnErr, IsTrue, Contains};
 

@@ -15,8 +15,8 @@ pub trait Source {
     // How many of its calls failed, up to the greatest u64.
     ghost faults: { Self → ℕ };
 
-    /// Moves the first bytes that are left into the front of `buf`, and says how many. None for a `buf` that
-    /// isn't empty is the end.
+    /// Fills the front of `buf` with the bytes that come next, and says with how many. At the end of input it
+    /// is with none, though `buf` has room.
     fn read(&mut self, buf: &mut [u8]) -> Result<usize, Failed>
         ensures bound { ReadsAtMost result buf.new }
         ensures bytes { ReadConsumes (left self.old) (left self.new) result buf.new }

@@ -1,8 +1,9 @@
 -- What an edit does to the tables. This project's own, after --add, --remove, --enable, --disable of spctl(8).
-use Rattle.std.specs.Prelude.{ℕ, ◌+◌, List, [], ◌∷◌, ◌++◌, map, Bool, true, not, ◌&&◌, ◌==◌, length, Option, Some, None, if◌then◌else◌, nat_lt, nat_le, min, bytes_eq}
+use Rattle.std.specs.Prelude.{ℕ, ◌+◌, List, [], ◌∷◌, ◌++◌, map, Bool, true, not, ◌&&◌, ◌==◌, length, Option, Some, None, if◌then◌else◌, nat_lt, nat_le, bytes_eq}
 use Rattle.std.specs.List.{find, filter, list_any}
 use Rattle.std.specs.Option.{option_or, option_map}
 use Rattle.policy_model.specs.Rules.{Row, Kind, same_kind}
+use Rattle.policy_model.specs.Outcomes.{at_most}
 use Rattle.policy_model.specs.Texts.{NewRow, Which, by_id, by_label, Selector, Content, add, remove, enable, disable, expire, switch, content_text}
 
 -- a content under a key, by which a repeat is known
@@ -138,15 +139,10 @@ full_rows (disable s) rows = filter (λ r. selects s r && nat_le 1000 r.disabled
 full_rows (expire s m) rows = []
 full_rows (switch on) rows = []
 
--- the lesser of an id and one that may be there
-abbrev pub lesser_id : ℕ → Option ℕ → ℕ
-lesser_id n None = n
-lesser_id n (Some m) = min n m
-
 -- the least id of some rows
 abbrev pub least_id : List Row → Option ℕ
 least_id [] = None
-least_id (r ∷ rows) = Some (lesser_id r.id (least_id rows))
+least_id (r ∷ rows) = Some (at_most r.id (least_id rows))
 
 -- refused where the count of a selected row is full, with the least id of such
 abbrev pub refused_by_count : Content → List Row → Option Answer

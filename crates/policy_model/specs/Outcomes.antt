@@ -16,10 +16,10 @@ abbrev pub latent_label : Option Row → List ℕ
 latent_label None = codes "no matching rule"
 latent_label (Some r) = r.label
 
--- the lesser of a moment and one that may be there
+-- the lesser of a number and one that may be there
 abbrev pub at_most : ℕ → Option ℕ → ℕ
-at_most m None = m
-at_most m (Some e) = min m e
+at_most n None = n
+at_most n (Some e) = min n e
 
 -- the end of a row that may be there
 abbrev pub expiry_of : Option Row → Option ℕ
