@@ -4,7 +4,8 @@ use Rattle.std.proofs.lemmas.List.Elements.{All-append}
 use Rattle.std.proofs.KnownBytes.{Consumes-nil, Consumes-kept}
 use Rattle.std.specs.Io.KnownBytes.{Keeps, Consumes, prepend_known}
 use Rattle.line_reader.specs.Lines.{HasNoLf}
-use Rattle.line_reader.specs.Reading.{pending, held, Stream, stream, IsPart, IsLine, IsReady, SameBut, IsRun}
+use Rattle.line_reader.specs.Reading.{pending, held, Stream, stream, IsPart, IsLine}
+use Rattle.line_reader.specs.Steps.{IsReady, HandsOnNothing, IsRun}
 use Rattle.line_reader.specs.declared.reader.LineReader.{LineReader}
 use Rattle.line_reader.proofs.HeldLemmas.{front_grows}
 
@@ -21,7 +22,7 @@ part_start a line e = record {
 }
 
 -- a piece was asked for
-pub part_ready : (a : Stream) (p q : LineReader) (l m : Option (List ℕ)) → IsPart a (stream p l) (held p) → SameBut p q → Keeps (prepend_known (pending p) l) (prepend_known (pending q) m) → IsPart a (stream q m) (held q)
+pub part_ready : (a : Stream) (p q : LineReader) (l m : Option (List ℕ)) → IsPart a (stream p l) (held p) → HandsOnNothing p q → Keeps (prepend_known (pending p) l) (prepend_known (pending q) m) → IsPart a (stream q m) (held q)
 part_ready a p q l m part same kept = record {
   bytes = part.bytes;
   taken = Consumes-kept a.unread (prepend_known (pending p) l) (prepend_known (pending q) m) part.bytes part.taken kept;

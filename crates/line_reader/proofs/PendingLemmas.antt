@@ -4,7 +4,7 @@ use Rattle.std.proofs.lemmas.Bool.Decides.{nat_tests}
 use Rattle.std.proofs.lemmas.List.{drop-take, take-take, drop-drop, take-append-drop, drop-append-le, length-drop, length-take, nil_from_length}
 use Rattle.std.specs.Io.KnownBytes.{Keeps, IsAtEnd, prepend_known}
 use Rattle.line_reader.specs.Lines.{IsFirstLf}
-use Rattle.line_reader.specs.Reading.{IsReady}
+use Rattle.line_reader.specs.Steps.{IsReady}
 
 -- the first part of what lies between two places, and the rest
 pub split_window : (next mid end : ℕ) (xs : List ℕ) → next ≤ mid → mid ≤ end → drop next (take end xs) ≡ take (mid - next) (drop next xs) ++ drop mid (take end xs)

@@ -2,7 +2,8 @@
 use Rattle.std.proofs.Common.{◌≡◌, ℕ, ◌+◌, ◌-◌, ◌<◌, ◌≤◌, min, true, false, List, [], ◌∷◌, ◌++◌, length, take, drop, sym, ap, ◌∙◌, append-nil, length-append, arith}
 use Rattle.std.proofs.lemmas.List.{drop-drop, length-take-le}
 use Rattle.line_reader.specs.Lines.{HasNoLf, IsFirstLf}
-use Rattle.line_reader.specs.Reading.{pending, held, IsRun}
+use Rattle.line_reader.specs.Reading.{pending, held}
+use Rattle.line_reader.specs.Steps.{IsRun}
 use Rattle.line_reader.specs.declared.reader.LineReader.{LineReader}
 use Rattle.line_reader.proofs.PendingLemmas.{split_window, split_at_lf, length_window, length_pending}
 

@@ -2,3 +2,4 @@ pub mod Lines
 pub mod Limits
 pub mod Held
 pub mod Reading
+pub mod Steps

@@ -1,6 +1,6 @@
 -- What a reader hands on of its source's bytes.
-use Rattle.std.specs.Prelude.{◌≡◌, ◌≢◌, ℕ, ◌+◌, ◌<◌, ◌⊎◌, Bool, true, false, List, [], ◌∷◌, ◌++◌, Option, Result, Ok, Err, MatchResult, length, take, drop}
-use Rattle.std.specs.Io.KnownBytes.{Keeps, Consumes, IsAtEnd, prepend_known}
+use Rattle.std.specs.Prelude.{◌≡◌, ◌≢◌, ℕ, ◌+◌, ◌<◌, ◌⊎◌, List, [], ◌∷◌, ◌++◌, Option, Result, Ok, Err, length, take, drop}
+use Rattle.std.specs.Io.KnownBytes.{Consumes, IsAtEnd, prepend_known}
 use Rattle.line_reader.specs.Held.{held_bytes}
 use Rattle.line_reader.specs.Lines.{HasNoLf}
 use Rattle.line_reader.specs.declared.line_read.LineRead.{LineRead}
@@ -52,7 +52,7 @@ pub record IsLine (old new : Stream) (line : List ℕ) : Type 0 where
   pub size : new.bytes ≡ old.bytes + length bytes + 1
   pub lines : new.lines ≡ old.lines + 1
 
--- what is pending behind a part for which there was no room
+-- as many lines, or as many bytes, as a session may have were handed on
 abbrev pub IsSpent : Stream → Type 0
 IsSpent s = (s.lines ≡ 1000000) ⊎ (s.bytes ≡ 268435456)
 
@@ -63,42 +63,3 @@ IsRead old new line behind (Ok Last) = IsPart old new line × (line ≢ []) × I
 IsRead old new line behind (Ok End) = IsPart old new line × (line ≡ []) × IsAtEnd new.unread
 IsRead old new line behind (Ok TooLong) = IsPart old new line × IsSpent new × (0 < length behind)
 IsRead old new line behind (Err e) = IsPart old new line × (behind ≡ [])
-
--- a last line that holds a byte, or none
-abbrev pub IsLast : List ℕ → LineRead → Type 0
-IsLast line Line = ⊥
-IsLast line Last = line ≢ []
-IsLast line End = line ≡ []
-IsLast line TooLong = ⊥
-
--- the reader handed on nothing
-pub record SameBut (old new : LineReader) : Type 0 where
-  pub line : held new ≡ held old
-  pub lines : new.lines ≡ old.lines
-  pub bytes : new.bytes ≡ old.bytes
-
--- after a call of the source with nothing pending: what was left is pending or still left
-abbrev pub IsFilled : {T E : Type 0} → Option (List ℕ) → Option (List ℕ) → List ℕ → Result T E → Type 0
-IsFilled old new behind r =
-    MatchResult r (λ _. Keeps old (prepend_known behind new) × (behind ≡ [] → IsAtEnd new)) (λ _. Keeps old new × (behind ≡ []))
-
--- whether a byte is pending; there is none only at the end or where the source failed
-abbrev pub IsReady : {E : Type 0} → Option (List ℕ) → Option (List ℕ) → List ℕ → Result Bool E → Type 0
-IsReady old new behind (Ok true) = Keeps old new × (0 < length behind)
-IsReady old new behind (Ok false) = Keeps old new × IsAtEnd new
-IsReady old new behind (Err e) = Keeps old new × (behind ≡ [])
-
--- the LF, where the run ended with one
-abbrev pub lf_if : Bool → List ℕ
-lf_if true = 10 ∷ []
-lf_if false = []
-
--- a run of pending bytes was handed on, up to an LF if there is one within the limit
-pub record IsRun (old new : LineReader) (ended : Bool) : Type 0 where
-  pub run : List ℕ
-  pub no_lf : HasNoLf run
-  pub taken : pending old ≡ (run ++ lf_if ended) ++ pending new
-  pub front : held new ≡ take 8193 (held old ++ run)
-  pub lines : new.lines ≡ old.lines + length (lf_if ended)
-  pub size : new.bytes ≡ old.bytes + length (run ++ lf_if ended)
-  pub moved : old.bytes < new.bytes

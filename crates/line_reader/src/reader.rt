@@ -35,7 +35,8 @@ pub struct LineReader {
 }
 
 impl LineReader {
-    ghost use Rattle.line_reader.specs.Reading.{pending, held, lines_handed, bytes_handed, stream, SameBut, IsFilled, IsReady, IsRun, IsRead, IsLast};
+    ghost use Rattle.line_reader.specs.Reading.{pending, held, lines_handed, bytes_handed, stream, IsRead};
+    ghost use Rattle.line_reader.specs.Steps.{HandsOnNothing, IsFilled, IsLast, IsReady, IsRun};
     ghost use Rattle.gk_io.specs.Faults.{Rose};
 
     pub fn new(alloc: Global) -> Result<LineReader, AllocError>
@@ -88,7 +89,7 @@ impl LineReader {
     fn ready<S: Source>(&mut self, source: &mut S) -> Result<bool, Failed>
         ensures bytes { IsReady (stream self.old (S.left source.old)).unread
             (stream self.new (S.left source.new)).unread (pending self.new) result }
-        ensures same { SameBut self.old self.new }
+        ensures same { HandsOnNothing self.old self.new }
         ensures telling { is_some (S.left source.new) ≡ is_some (S.left source.old) }
         ensures later { S.faults source.old ≤ S.faults source.new }
         ensures cause { OnErr result (Rose (S.faults source.old) (S.faults source.new)) }
@@ -106,7 +107,7 @@ impl LineReader {
     fn refill<S: Source>(&mut self, source: &mut S) -> Result<(), Failed>
         requires { self.old.next ≡ self.old.end }
         ensures bytes { IsFilled (S.left source.old) (S.left source.new) (pending self.new) result }
-        ensures same { SameBut self.old self.new }
+        ensures same { HandsOnNothing self.old self.new }
         ensures telling { is_some (S.left source.new) ≡ is_some (S.left source.old) }
         ensures later { S.faults source.old ≤ S.faults source.new }
         ensures cause { OnErr result (Rose (S.faults source.old) (S.faults source.new)) }

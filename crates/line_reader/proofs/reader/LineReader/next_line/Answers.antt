@@ -1,6 +1,7 @@
 use Rattle.std.proofs.Common.{◌∙◌, subst, arith}
 use Rattle.std.proofs.lemmas.Bool.Decides.{nat_tests}
-use Rattle.line_reader.specs.Reading.{stream, IsRun}
+use Rattle.line_reader.specs.Reading.{stream}
+use Rattle.line_reader.specs.Steps.{IsRun}
 use Rattle.line_reader.proofs.PartLemmas.{part_ready, part_grows, line_ends, ready_kept}
 use Rattle.line_reader.proofs.reader.LineReader.next_line.Goals as goal
 
