@@ -1,8 +1,8 @@
 -- How a session ends.
-use Rattle.std.proofs.Common.{◌≡◌, ◌≢◌, ℕ, zero, suc, ◌+◌, ◌<◌, ◌≤◌, ◌⊎◌, inl, inr, List, [], ◌∷◌, ◌++◌, Option, None, Some, length, take, refl, sym, ap, ◌∙◌, subst, append_assoc, append-nil, lit<, arith}
+use Rattle.std.proofs.Common.{◌≡◌, ◌≢◌, ℕ, All, length-append, zero, suc, ◌+◌, ◌<◌, ◌≤◌, ◌⊎◌, inl, inr, List, [], ◌∷◌, ◌++◌, Option, None, Some, length, take, refl, sym, ap, ◌∙◌, subst, append_assoc, append-nil, lit<, arith}
 use Rattle.std.proofs.KnownBytes.{Appends-nil, Appends-trans, Consumes-nil, Consumes-trans}
 use Rattle.std.specs.Io.KnownBytes.{Appends, Consumes, IsAtEnd, prepend_known}
-use Rattle.line_reader.specs.Lines.{lines_of, text_of, with_lf}
+use Rattle.line_reader.specs.Lines.{lines_of, text_of, with_lf, HasNoLf}
 use Rattle.line_reader.specs.Limits.{IsWithin, RunsPast}
 use Rattle.line_reader.specs.Reading.{Stream, IsLine, IsPart, IsSpent, pending, stream}
 use Rattle.line_reader.specs.declared.reader.LineReader.{LineReader}
@@ -31,6 +31,11 @@ none_held n held [] lt h none = refl
 none_held zero held (byte ∷ bytes) lt h none = absurd (omega arith)
 none_held (suc n) held (byte ∷ bytes) lt h none = cc
 
+-- so many whole lines are within the limits
+whole_within : (lines : List (List ℕ)) → All HasNoLf lines → length lines ≤ 1000000 → length (text_of lines) ≤ 268435456 → IsWithin (text_of lines)
+whole_within lines whole most size =
+    subst IsWithin (append-nil (text_of lines)) (within_part lines [] whole (λ k d h. absurd (omega arith)) most (λ some. absurd (omega (arith, some))) (grind (arith, size)))
+
 -- a session that couldn't begin
 pub stops_at_once : (A : List (List ℕ) → List (List ℕ) → Type 0) (left first : Option (List ℕ)) → A [] [] → StopsBefore AtWant A left left first first
 stops_at_once A left first a = record {
@@ -39,6 +44,7 @@ stops_at_once A left first a = record {
   replies = [];
   taken = Consumes-nil left;
   whole = λ k d h. absurd (omega arith);
+  within = record { lines = omega arith; size = omega arith };
   why = tt;
   put = Appends-nil first;
   answered = a;
@@ -88,9 +94,21 @@ module _ (A B : List (List ℕ) → List (List ℕ) → Type 0) (start left firs
       within_part going.lines part.bytes going.whole part.no_lf (grind (arith, most, part.lines, going.number)) (λ some. grind (arith, part.begun some, going.number))
       (grind (arith, size, part.size, going.size))
 
+  -- what was answered before is within the limits
+  answered_within : s.lines ≤ 1000000 → s.bytes ≤ 268435456 → IsWithin (text_of going.lines)
+  answered_within most size = whole_within going.lines going.whole (grind (arith, most, going.number)) (grind (arith, size, going.size))
+
+  -- so it is with a line and its LF
+  line_within : (line : IsLine s (stream r left) held) → r.lines ≤ 1000000 → r.bytes ≤ 268435456 → IsWithin (text_of going.lines ++ (line.bytes ++ 10 ∷ []))
+  line_within line most size =
+      subst IsWithin (text_of-more going.lines line.bytes)
+      (whole_within (going.lines ++ line.bytes ∷ []) (whole_more going.lines line.bytes going.whole line.no_lf)
+      (grind (arith, most, line.lines, going.number, length-append going.lines (line.bytes ∷ [])))
+      (grind (arith, size, line.size, going.size, ap length (text_of-more going.lines line.bytes), length-append (text_of going.lines) (with_lf line.bytes), length-append line.bytes (10 ∷ []))))
+
   -- a line's reply isn't whole
-  pub line_broken : (line : IsLine s (stream r left) held) → IsReplied B old new line.bytes going.lines going.replies Broken → BreaksOff B start left first new
-  line_broken line replied = record {
+  pub line_broken : (line : IsLine s (stream r left) held) → r.lines ≤ 1000000 → r.bytes ≤ 268435456 → IsReplied B old new line.bytes going.lines going.replies Broken → BreaksOff B start left first new
+  line_broken line most size replied = record {
     lines = going.lines;
     line = line.bytes;
     rest = 10 ∷ pending r;
@@ -99,19 +117,21 @@ module _ (A B : List (List ℕ) → List (List ℕ) → Type 0) (start left firs
     count = replied.1;
     taken = line_lost line;
     whole = whole_more going.lines line.bytes going.whole line.no_lf;
+    within = line_within line most size;
     ended = refl;
     put = broken_put first old new going.replies replied.0 replied.1 going.put replied.2;
     answered = replied.3;
   }
 
   -- a line wasn't answered
-  pub line_unanswered : (line : IsLine s (stream r left) held) → IsReplied B old new line.bytes going.lines going.replies Unanswered → StopsBefore AtWant B start left first new
-  line_unanswered line replied = record {
+  pub line_unanswered : (line : IsLine s (stream r left) held) → r.lines ≤ 1000000 → r.bytes ≤ 268435456 → IsReplied B old new line.bytes going.lines going.replies Unanswered → StopsBefore AtWant B start left first new
+  line_unanswered line most size replied = record {
     lines = going.lines;
     rest = line.bytes ++ 10 ∷ pending r;
     replies = going.replies;
     taken = line_lost line;
     whole = going.whole;
+    within = answered_within (grind (arith, most, line.lines)) (grind (arith, size, line.size));
     why = tt;
     put = put_kept first old new (text_of going.replies) going.put replied.0;
     answered = replied.1;
@@ -133,8 +153,8 @@ module _ (A B : List (List ℕ) → List (List ℕ) → Type 0) (start left firs
         replied.2;
   }
 
-  pub last_broken : (part : IsPart s (stream r left) held) → IsAtEnd (prepend_known (pending r) left) → IsReplied B old new part.bytes going.lines going.replies Broken → BreaksOff B start left first new
-  last_broken part end replied = record {
+  pub last_broken : (part : IsPart s (stream r left) held) → IsAtEnd (prepend_known (pending r) left) → r.lines ≤ 1000000 → r.bytes ≤ 268435456 → IsReplied B old new part.bytes going.lines going.replies Broken → BreaksOff B start left first new
+  last_broken part end most size replied = record {
     lines = going.lines;
     line = part.bytes;
     rest = [];
@@ -143,18 +163,20 @@ module _ (A B : List (List ℕ) → List (List ℕ) → Type 0) (start left firs
     count = replied.1;
     taken = subst (λ (l : List ℕ). Consumes start left (text_of going.lines ++ l)) (sym (append-nil part.bytes)) (last_lost part end);
     whole = whole_more going.lines part.bytes going.whole part.no_lf;
+    within = subst (λ (l : List ℕ). IsWithin (text_of going.lines ++ l)) (sym (append-nil part.bytes)) (handed_within part most size);
     ended = end_left left (pending r) end;
     put = broken_put first old new going.replies replied.0 replied.1 going.put replied.2;
     answered = replied.3;
   }
 
-  pub last_unanswered : (part : IsPart s (stream r left) held) → IsAtEnd (prepend_known (pending r) left) → IsReplied B old new part.bytes going.lines going.replies Unanswered → StopsBefore AtWant B start left first new
-  last_unanswered part end replied = record {
+  pub last_unanswered : (part : IsPart s (stream r left) held) → IsAtEnd (prepend_known (pending r) left) → r.lines ≤ 1000000 → r.bytes ≤ 268435456 → IsReplied B old new part.bytes going.lines going.replies Unanswered → StopsBefore AtWant B start left first new
+  last_unanswered part end most size replied = record {
     lines = going.lines;
     rest = part.bytes;
     replies = going.replies;
     taken = last_lost part end;
     whole = going.whole;
+    within = answered_within (grind (arith, most, part.lines)) (grind (arith, size, part.size));
     why = tt;
     put = put_kept first old new (text_of going.replies) going.put replied.0;
     answered = replied.1;
@@ -176,8 +198,8 @@ module _ (A B : List (List ℕ) → List (List ℕ) → Type 0) (start left firs
       }
 
   -- the limits were passed
-  pub at_limit : (part : IsPart s (stream r left) held) → IsSpent (stream r left) → 0 < length (pending r) → StopsBefore AtLimit A start left first old
-  at_limit part spent some =
+  pub at_limit : (part : IsPart s (stream r left) held) → IsSpent (stream r left) → 0 < length (pending r) → r.lines ≤ 1000000 → r.bytes ≤ 268435456 → StopsBefore AtLimit A start left first old
+  at_limit part spent some most size =
       let full : (length going.lines ≡ 1000000) ⊎ (length (text_of going.lines) + length part.bytes ≡ 268435456) =
       elim spent [ inl number ↦ inl (grind (arith, number, part.lines, going.number)) | inr size ↦ inr (grind (arith, size, part.size, going.size)) ] in
       record {
@@ -186,6 +208,7 @@ module _ (A B : List (List ℕ) → List (List ℕ) → Type 0) (start left firs
         replies = going.replies;
         taken = subst (Consumes start left) (append_assoc (text_of going.lines) part.bytes (pending r)) (part_lost part);
         whole = going.whole;
+        within = answered_within (grind (arith, most, part.lines)) (grind (arith, size, part.size));
         why = (past_limit going.lines part.bytes (pending r) going.whole some full, all_within going.lines part.bytes (pending r) part.no_lf full);
         put = going.put;
         answered = going.answered;
@@ -199,6 +222,7 @@ module _ (A B : List (List ℕ) → List (List ℕ) → Type 0) (start left firs
     replies = going.replies;
     taken = subst (Consumes start left) (ap (λ l. (text_of going.lines ++ part.bytes) ++ l) none ∙ append-nil (text_of going.lines ++ part.bytes)) (part_lost part);
     whole = going.whole;
+    within = answered_within (grind (arith, most, part.lines)) (grind (arith, size, part.size));
     why = (part.no_lf, handed_within part most size);
     put = going.put;
     answered = going.answered;

@@ -14,13 +14,14 @@ pub record EndsFine (Answered : List (List ℕ) → List (List ℕ) → Type 0) 
   pub put : Appends written sent (text_of replies)
   pub answered : Answered (lines_of bytes) replies
 
--- whole lines were read and answered, and more bytes were read that weren't; just the replies were written
+-- whole lines within the limits were read and answered, and more bytes were read that weren't; just the replies were written
 pub record StopsBefore (Why : List (List ℕ) → List ℕ → Type 0) (Answered : List (List ℕ) → List (List ℕ) → Type 0) (left now written sent : Option (List ℕ)) : Type 0 where
   pub lines : List (List ℕ)
   pub rest : List ℕ
   pub replies : List (List ℕ)
   pub taken : Consumes left now (text_of lines ++ rest)
   pub whole : All HasNoLf lines
+  pub within : IsWithin (text_of lines)
   pub why : Why lines rest
   pub put : Appends written sent (text_of replies)
   pub answered : Answered lines replies
@@ -42,7 +43,7 @@ abbrev pub EndsLine : List ℕ → Option (List ℕ) → Type 0
 EndsLine [] now = IsAtEnd now
 EndsLine (byte ∷ rest) now = byte ≡ 10
 
--- all lines up to one were read and answered; of the last reply a front was written, the others whole
+-- all lines up to one were read within the limits and answered; of the last reply a front was written, the others whole
 pub record BreaksOff (Answered : List (List ℕ) → List (List ℕ) → Type 0) (left now written sent : Option (List ℕ)) : Type 0 where
   pub lines : List (List ℕ)
   pub line : List ℕ
@@ -52,6 +53,7 @@ pub record BreaksOff (Answered : List (List ℕ) → List (List ℕ) → Type 0)
   pub count : ℕ
   pub taken : Consumes left now (text_of lines ++ (line ++ rest))
   pub whole : All HasNoLf (lines ++ line ∷ [])
+  pub within : IsWithin (text_of lines ++ (line ++ take 1 rest))
   pub ended : EndsLine rest now
   pub put : Appends written sent (text_of replies ++ take count (with_lf reply))
   pub answered : Answered (lines ++ line ∷ []) (replies ++ reply ∷ [])

@@ -5,14 +5,14 @@ use Rattle.req_tree.specs.Facts.{no_facts}
 use Rattle.policy_model.specs.History.{Event, fresh}
 use Rattle.policy_model.specs.Session.{Session}
 use Rattle.line_reader.specs.Lines.{text_of, with_lf, HasNoLf}
-use Rattle.line_reader.specs.Limits.{RunsPast}
+use Rattle.line_reader.specs.Limits.{IsWithin, RunsPast}
 use Rattle.line_session.specs.Ends.{EndsLine, AtReadFault, AtLimit, AtWant}
 use Rattle.spctl_cli.specs.declared.status.Status.{Status}
 use Rattle.spctl_cli.specs.declared.status.Status.TheVariants.{Fine, Usage, ReadFault, WriteFault, SessionTooLong, OutOfMemory}
 use Rattle.spctl_cli.specs.Headline.{IsSession}
 use Rattle.spctl_cli.specs.LastLines.{read_fault_text, too_long_text, usage_text}
 
--- whole lines were read and answered, more bytes were read that weren't, and the sink gained just the replies and a last
+-- whole lines within the limits were read and answered, more bytes were read that weren't, and the sink gained just the replies and a last
 -- text; the history is that of the answered lines, and so are its tables
 pub record StopsWith (Why : List (List ℕ) → List ℕ → Type 0) (last : List ℕ) (left now written sent : Option (List ℕ)) : Type 0 where
   pub lines : List (List ℕ)
@@ -21,6 +21,7 @@ pub record StopsWith (Why : List (List ℕ) → List ℕ → Type 0) (last : Lis
   pub history : List Event
   pub taken : Consumes left now (text_of lines ++ rest)
   pub whole : All HasNoLf lines
+  pub within : IsWithin (text_of lines)
   pub why : Why lines rest
   pub put : Appends written sent (text_of replies ++ last)
   pub session : Session (fresh no_facts) [] lines replies history
@@ -36,6 +37,7 @@ pub record BreaksAtReply (left now written sent : Option (List ℕ)) : Type 0 wh
   pub history : List Event
   pub taken : Consumes left now (text_of lines ++ (line ++ rest))
   pub whole : All HasNoLf (lines ++ line ∷ [])
+  pub within : IsWithin (text_of lines ++ (line ++ take 1 rest))
   pub ended : EndsLine rest now
   pub put : Appends written sent (text_of replies ++ take count (with_lf reply))
   pub session : Session (fresh no_facts) [] (lines ++ line ∷ []) (replies ++ reply ∷ []) history
