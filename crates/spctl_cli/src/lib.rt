@@ -13,8 +13,6 @@ mod status;
 mod tests;
 mod top;
 
-pub use desk_lines::DeskLines;
 pub use laws::the_front_asks_the_same;
-pub use request::{Request, read_request};
 pub use status::Status;
 pub use top::run;
