@@ -8,3 +8,5 @@ pub mod Lengths
 pub mod Blobs
 pub mod Plain
 pub mod Written
+pub mod SetParts
+pub mod SetLaws

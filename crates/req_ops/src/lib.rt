@@ -10,11 +10,13 @@ pub mod laws;
 mod leaf;
 mod opcode;
 mod round_trip;
+mod set_decoding;
 mod size;
 mod tree;
 
 pub use decoding::decode;
 pub use encodable::is_encodable;
 pub use encoding::encode;
-pub use fault::OpsFault;
+pub use fault::{OpsFault, SetFault};
 pub use round_trip::{reread, respell};
+pub use set_decoding::decode_set;

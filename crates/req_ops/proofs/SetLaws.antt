@@ -1,0 +1,178 @@
+-- A set that is read is spelled so, and one that is spelled is read.
+use Rattle.std.proofs.Common.{◌≡◌, ◌≢◌, ℕ, ◌<◌, ◌≤◌, Option, Some, None, Result, Ok, Err, List, [], ◌++◌, length, refl, sym, ap, subst, ◌∙◌, arith}
+use Rattle.std.specs.Prelude.{IfOk, IfErr, MatchResult}
+use Rattle.std.specs.Option.{MatchOption}
+use Rattle.std.specs.Result.{result_and}
+use Rattle.std.proofs.lemmas.List.{append-nil}
+use Rattle.req_tree.specs.Tree.{Tree}
+use Rattle.req_tree.specs.TreeSet.{TreeSet, IsSetKind, part_of}
+use Rattle.req_tree.proofs.OidNumbers.{IsBytes}
+use Rattle.cs_blob.specs.SuperBlobs.{IsSuperBlob, IsPartOf, count_of, kind_at, part_at, offset_at, length_at}
+use Rattle.cs_blob.specs.declared.fault.BlobFault.{BlobFault}
+use Rattle.cs_blob.proofs.BlobLemmas.{same_blob}
+use Rattle.cs_blob.proofs.SuperLemmas.{no_super}
+use Rattle.req_ops.specs.declared.fault.OpsFault.{OpsFault}
+use Rattle.req_ops.specs.declared.fault.OpsFault.TheVariants as fault
+use Rattle.req_ops.specs.declared.fault.SetFault.{SetFault}
+use Rattle.req_ops.specs.declared.fault.SetFault.TheVariants.{Blob, TooLong, Trailing, BadSetKind, Part, OutOfMemory}
+use Rattle.req_ops.specs.Spelling.{IsSpelling}
+use Rattle.req_ops.specs.Decoding.{decoded}
+use Rattle.req_ops.specs.Sets.{set_magic, IsSetSpelling, SetFails, StopsAt, HasRead, PartFails, part_fault}
+use Rattle.req_ops.proofs.Fields.{ok_is, IsBytes-drop, IsBytes-take}
+use Rattle.req_ops.proofs.Blobs.{decoded_spells, spells_decoded}
+use Rattle.req_ops.proofs.SetParts.{Tells, same_entry}
+
+part_bytes : (whole : List ℕ) (k : ℕ) → IsBytes whole → IsBytes (part_at whole k)
+part_bytes whole k are = IsBytes-take (length_at whole k) _ (IsBytes-drop (offset_at whole k) whole are)
+
+pub read_spells : (whole : List ℕ) (set : TreeSet) → IsBytes whole → IsSuperBlob set_magic whole → length whole ≤ 1048576 → HasRead whole (count_of whole) set → IsSetSpelling set whole
+read_spells whole set are blob short has = record {
+  blob = blob;
+  short = short;
+  kinds = λ index among. (has.before index among).0;
+  parts = λ kind is. by_part kind (part_of kind set) (has.parts kind is);
+}
+  where
+    by_part : (kind : ℕ) (o : Option Tree) → Tells whole (count_of whole) kind o
+        → MatchOption o ((part : List ℕ) → IsPartOf whole kind part → ⊥) (λ tree. (part : List ℕ) × IsPartOf whole kind part × IsSpelling tree part)
+    by_part kind None h = λ part p. h p.0 p.1 p.2
+    by_part kind (Some tree) h = (part_at whole h.0, (h.0, h.1, h.2, refl), decoded_spells (part_at whole h.0) tree (part_bytes whole h.0 are) h.3)
+
+same_option : (whole : List ℕ) (kind : ℕ) (o p : Option Tree) → IsSuperBlob set_magic whole → Tells whole (count_of whole) kind o
+    → MatchOption p ((part : List ℕ) → IsPartOf whole kind part → ⊥) (λ tree. (part : List ℕ) × IsPartOf whole kind part × IsSpelling tree part) → o ≡ p
+same_option whole kind None None blob h g = refl
+same_option whole kind None (Some u) blob h g = absurd (h g.1.0 g.1.1 g.1.2)
+same_option whole kind (Some t) None blob h g = absurd (g (part_at whole h.0) (h.0, h.1, h.2, refl))
+same_option whole kind (Some t) (Some u) blob h g =
+    let entry : h.0 ≡ g.1.0 = same_entry set_magic whole h.0 g.1.0 blob h.1 g.1.1 (h.2 ∙ sym g.1.2) in
+    let part : part_at whole h.0 ≡ g.0 = ap (part_at whole) entry ∙ sym g.1.3 in
+    ap Some (ok_is t u (sym h.3 ∙ ap decoded part ∙ spells_decoded g.0 u g.2))
+
+abbrev set_of : Option Tree → Option Tree → Option Tree → Option Tree → Option Tree → TreeSet
+set_of a b c d e = record { host = a; guest = b; designated = c; library = d; plugin = e }
+
+same_parts : (a b : TreeSet) → a.host ≡ b.host → a.guest ≡ b.guest → a.designated ≡ b.designated → a.library ≡ b.library → a.plugin ≡ b.plugin → a ≡ b
+same_parts a b p q r s t =
+    ap (λ (x : Option Tree). set_of x a.guest a.designated a.library a.plugin) p
+    ∙ ap (λ (x : Option Tree). set_of b.host x a.designated a.library a.plugin) q
+    ∙ ap (λ (x : Option Tree). set_of b.host b.guest x a.library a.plugin) r
+    ∙ ap (λ (x : Option Tree). set_of b.host b.guest b.designated x a.plugin) s
+    ∙ ap (λ (x : Option Tree). set_of b.host b.guest b.designated b.library x) t
+
+pub same_set : (whole : List ℕ) (a b : TreeSet) → HasRead whole (count_of whole) a → IsSetSpelling b whole → a ≡ b
+same_set whole a b has is =
+    let at : (kind : ℕ) → IsSetKind kind → part_of kind a ≡ part_of kind b = λ kind be. same_option whole kind (part_of kind a) (part_of kind b) is.blob (has.parts kind be) (is.parts kind be) in
+    same_parts a b (at 1 (omega arith, omega arith)) (at 2 (omega arith, omega arith)) (at 3 (omega arith, omega arith)) (at 4 (omega arith, omega arith)) (at 5 (omega arith, omega arith))
+
+not_both : (tree : Tree) (why : OpsFault) (r : Result Tree OpsFault) → r ≡ Ok tree → r ≡ Err why → ⊥
+not_both tree why r h k = cc
+
+-- each part of a set is read
+spelled_part : (bytes : List ℕ) (set : TreeSet) (index : ℕ) → IsSetSpelling set bytes → index < count_of bytes → (tree : Tree) × (decoded (part_at bytes index) ≡ Ok tree)
+spelled_part bytes set index is among = by_part (part_of (kind_at bytes index) set) (is.parts (kind_at bytes index) (is.kinds index among))
+  where
+    by_part : (o : Option Tree) → MatchOption o ((part : List ℕ) → IsPartOf bytes (kind_at bytes index) part → ⊥) (λ tree. (part : List ℕ) × IsPartOf bytes (kind_at bytes index) part × IsSpelling tree part)
+        → (tree : Tree) × (decoded (part_at bytes index) ≡ Ok tree)
+    by_part None h = absurd (h (part_at bytes index) (index, among, refl, refl))
+    by_part (Some tree) h =
+        let entry : index ≡ h.1.0 = same_entry set_magic bytes index h.1.0 is.blob among h.1.1 (sym h.1.2) in
+        (tree, ap decoded (ap (part_at bytes) entry ∙ sym h.1.3) ∙ spells_decoded h.0 tree h.2)
+
+pub no_set_fault : (bytes : List ℕ) (set : TreeSet) (fault : SetFault) → IsSetSpelling set bytes → SetFails bytes fault → fault ≡ OutOfMemory
+no_set_fault bytes set (Blob why) is h = absurd (no_super set_magic bytes bytes [] why h is.blob (sym (append-nil bytes)))
+no_set_fault bytes set TooLong is h =
+    let same = same_blob set_magic bytes h.0 h.1 bytes [] h.2.blob h.3 is.blob.blob (sym (append-nil bytes)) in
+    let short : length bytes ≤ 1048576 = is.short in
+    let long : 1048576 < length h.0 = h.4 in
+    absurd (omega (arith, ap length same.0, short, long))
+no_set_fault bytes set (Trailing at) is h =
+    let same = same_blob set_magic bytes h.0 h.1 bytes [] h.2.blob h.3 is.blob.blob (sym (append-nil bytes)) in
+    absurd (h.5 same.1)
+no_set_fault bytes set (BadSetKind index) is h = absurd (h.2.fails.1 (is.kinds h.2.index h.2.among))
+no_set_fault bytes set (Part index why) is h =
+    let part = spelled_part bytes set h.2.index is h.2.among in
+    absurd (not_both part.0 why (decoded (part_at bytes h.2.index)) part.1 h.2.fails.2)
+no_set_fault bytes set OutOfMemory is h = refl
+
+-- ---- the public call
+
+whole_alone : (bytes whole rest : List ℕ) → bytes ≡ whole ++ rest → rest ≡ [] → whole ≡ bytes
+whole_alone bytes whole rest parts none = sym (parts ∙ ap (λ (r : List ℕ). whole ++ r) none ∙ append-nil whole)
+
+-- what reading the whole tells
+abbrev pub WholeRead : List ℕ → List ℕ → List ℕ → Result TreeSet SetFault → Type 0
+WholeRead bytes whole rest r = MatchResult r (λ set. (rest ≡ []) × (length whole ≤ 1048576) × HasRead whole (count_of whole) set) (λ fault. SetFails bytes fault)
+
+pub set_found : (bytes whole rest : List ℕ) (r : Result TreeSet SetFault) → IsBytes bytes → IsSuperBlob set_magic whole → bytes ≡ whole ++ rest → WholeRead bytes whole rest r → IfOk r (λ set. IsSetSpelling set bytes)
+set_found bytes whole rest (Err fault) are blob parts h = tt
+set_found bytes whole rest (Ok set) are blob parts h =
+    let same : whole ≡ bytes = whole_alone bytes whole rest parts h.0 in
+    subst (λ (b : List ℕ). IsSetSpelling set b) same (read_spells whole set (subst IsBytes (sym same) are) blob h.1 h.2)
+
+pub set_only : (bytes whole rest : List ℕ) (r : Result TreeSet SetFault) (set : TreeSet) → bytes ≡ whole ++ rest → WholeRead bytes whole rest r → IsSetSpelling set bytes
+    → MatchResult r (λ read. read ≡ set) (λ fault. fault ≡ OutOfMemory)
+set_only bytes whole rest (Err fault) set parts h is = no_set_fault bytes set fault is h
+set_only bytes whole rest (Ok read) set parts h is =
+    let same : whole ≡ bytes = whole_alone bytes whole rest parts h.0 in
+    same_set whole read set h.2 (subst (λ (b : List ℕ). IsSetSpelling set b) (sym same) is)
+
+pub set_exact : (bytes whole rest : List ℕ) (r : Result TreeSet SetFault) → WholeRead bytes whole rest r → IfErr r (λ fault. SetFails bytes fault)
+set_exact bytes whole rest (Err fault) h = h
+set_exact bytes whole rest (Ok set) h = tt
+
+pub blob_only : (bytes : List ℕ) (why : BlobFault) (set : TreeSet) → SetFails bytes (Blob why) → IsSetSpelling set bytes → ⊥
+blob_only bytes why set h is = no_super set_magic bytes bytes [] why h is.blob (sym (append-nil bytes))
+
+-- a set that stops at an entry, behind whose end nothing is left
+pub stops : (bytes whole rest : List ℕ) (fault : SetFault) → IsSuperBlob set_magic whole → bytes ≡ whole ++ rest → rest ≡ [] → length whole ≤ 1048576 → StopsAt whole fault → SetFails bytes fault
+stops bytes whole rest fault blob parts none short stop =
+    let same : whole ≡ bytes = whole_alone bytes whole rest parts none in
+    subst (λ (b : List ℕ). SetFails b fault) same (by_fault fault stop)
+  where
+    by_fault : (f : SetFault) → StopsAt whole f → SetFails whole f
+    by_fault (Blob why) s = absurd s.fails
+    by_fault TooLong s = absurd s.fails
+    by_fault (Trailing at) s = absurd s.fails
+    by_fault (BadSetKind index) s = (blob, short, s)
+    by_fault (Part index why) s = (blob, short, s)
+    by_fault OutOfMemory s = tt
+
+pub read_fault : (whole : List ℕ) (index : ℕ) (why : OpsFault) → IsSetKind (kind_at whole index) → (why ≢ fault.OutOfMemory → decoded (part_at whole index) ≡ Err why) → PartFails whole index (part_fault index why)
+read_fault whole index fault.OutOfMemory is h = tt
+read_fault whole index (fault.Blob why) is h = (refl, is, h (λ p. cc))
+read_fault whole index fault.BadKind is h = (refl, is, h (λ p. cc))
+read_fault whole index (fault.UnknownOp at op) is h = (refl, is, h (λ p. cc))
+read_fault whole index (fault.OutOfScopeOp at) is h = (refl, is, h (λ p. cc))
+read_fault whole index (fault.UnknownMatch at suffix) is h = (refl, is, h (λ p. cc))
+read_fault whole index (fault.Cut at) is h = (refl, is, h (λ p. cc))
+read_fault whole index (fault.BadPadding at) is h = (refl, is, h (λ p. cc))
+read_fault whole index (fault.BadHashLength at) is h = (refl, is, h (λ p. cc))
+read_fault whole index (fault.TooDeep at) is h = (refl, is, h (λ p. cc))
+read_fault whole index (fault.Trailing at) is h = (refl, is, h (λ p. cc))
+read_fault whole index (fault.BadOid at) is h = (refl, is, h (λ p. cc))
+read_fault whole index fault.TooLong is h = (refl, is, h (λ p. cc))
+read_fault whole index (fault.BadKey at) is h = (refl, is, h (λ p. cc))
+
+-- the set, where its parts were added
+pub and_read : (r : Result (Unit {0}) SetFault) (whole : List ℕ) (set : TreeSet) → MatchResult r (λ _. HasRead whole (count_of whole) set) (λ f. StopsAt whole f)
+    → MatchResult (result_and r (Ok set)) (λ read. HasRead whole (count_of whole) read) (λ f. StopsAt whole f)
+and_read (Ok _) whole set h = h
+and_read (Err f) whole set h = h
+
+-- what one set says of the part of a type, and what another says
+one_option : (bytes : List ℕ) (kind : ℕ) (o p : Option Tree) → IsSuperBlob set_magic bytes
+    → MatchOption o ((part : List ℕ) → IsPartOf bytes kind part → ⊥) (λ tree. (part : List ℕ) × IsPartOf bytes kind part × IsSpelling tree part)
+    → MatchOption p ((part : List ℕ) → IsPartOf bytes kind part → ⊥) (λ tree. (part : List ℕ) × IsPartOf bytes kind part × IsSpelling tree part) → o ≡ p
+one_option bytes kind None None blob h g = refl
+one_option bytes kind None (Some u) blob h g = absurd (h g.0 g.1)
+one_option bytes kind (Some t) None blob h g = absurd (g h.0 h.1)
+one_option bytes kind (Some t) (Some u) blob h g =
+    let entry : h.1.0 ≡ g.1.0 = same_entry set_magic bytes h.1.0 g.1.0 blob h.1.1 g.1.1 (h.1.2 ∙ sym g.1.2) in
+    let part : h.0 ≡ g.0 = h.1.3 ∙ ap (part_at bytes) entry ∙ sym g.1.3 in
+    ap Some (ok_is t u (sym (spells_decoded h.0 t h.2) ∙ ap decoded part ∙ spells_decoded g.0 u g.2))
+
+-- bytes spell one set
+pub one_set : (a b : TreeSet) (bytes : List ℕ) → IsSetSpelling a bytes → IsSetSpelling b bytes → a ≡ b
+one_set a b bytes p q =
+    let at : (kind : ℕ) → IsSetKind kind → part_of kind a ≡ part_of kind b = λ kind be. one_option bytes kind (part_of kind a) (part_of kind b) p.blob (p.parts kind be) (q.parts kind be) in
+    same_parts a b (at 1 (omega arith, omega arith)) (at 2 (omega arith, omega arith)) (at 3 (omega arith, omega arith)) (at 4 (omega arith, omega arith)) (at 5 (omega arith, omega arith))
