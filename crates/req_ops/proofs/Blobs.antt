@@ -83,7 +83,7 @@ is_blob magic n body small fits is =
       sized = place ∙ number_at-behind (word magic) (word n ++ body) 0 ∙ written_number n body fits ∙ omega (arith, sizes, later, first, second, is);
     }
 
-requirement_blob : (expression : List ℕ) → length (requirement expression) < 2 ^ 32 → IsBlob requirement_magic (requirement expression)
+pub requirement_blob : (expression : List ℕ) → length (requirement expression) < 2 ^ 32 → IsBlob requirement_magic (requirement expression)
 requirement_blob expression fits =
     let first : length (word requirement_magic) ≡ 4 = length-word requirement_magic in
     let second : length (word (12 + length expression)) ≡ 4 = length-word (12 + length expression) in

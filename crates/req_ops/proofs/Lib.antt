@@ -10,3 +10,4 @@ pub mod Plain
 pub mod Written
 pub mod SetParts
 pub mod SetLaws
+pub mod SetWritten

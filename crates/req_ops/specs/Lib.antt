@@ -5,3 +5,4 @@ pub mod Reading
 pub mod Decoding
 pub mod Encoding
 pub mod Sets
+pub mod SetEncoding

@@ -11,6 +11,7 @@ mod leaf;
 mod opcode;
 mod round_trip;
 mod set_decoding;
+mod set_encoding;
 mod size;
 mod tree;
 
@@ -20,3 +21,4 @@ pub use encoding::encode;
 pub use fault::{OpsFault, SetFault};
 pub use round_trip::{reread, respell};
 pub use set_decoding::decode_set;
+pub use set_encoding::encode_set;

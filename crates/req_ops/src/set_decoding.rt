@@ -16,7 +16,7 @@ use req_tree::{Req, ReqSet};
 use std::alloc::Global;
 
 /// The magic of a set of requirements.
-const SET_MAGIC: u32 = 0xfade_0c01;
+pub(crate) const SET_MAGIC: u32 = 0xfade_0c01;
 
 /// The set that the bytes spell, all of the bytes. The checks go from the front: the super-blob with its
 /// index, its size, that nothing is left, and then each part in the order of the index.

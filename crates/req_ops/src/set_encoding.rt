@@ -1,0 +1,99 @@
+//! Sets of requirements written as their plain bytes.
+
+ghost use Rattle.std.specs.Prelude.{◌≡◌, ◌+◌, ◌<◌, ◌≤◌, ◌⊎◌, ◌++◌, ◌∷◌, [], ℕ, None, length, IfOk, IfErr, MatchResult};
+ghost use Rattle.cs_blob.specs.Blobs.{IsSized};
+ghost use Rattle.cs_blob.specs.Writing.{add_fault, written};
+ghost use Rattle.req_ops.specs.Sets.{set_magic};
+ghost use Rattle.req_ops.specs.SetEncoding.{IsEncodableSet, IsDraftTo, HasLongPart, plain_set};
+
+use crate::decoding::MOST_BYTES;
+use crate::encoding::encode;
+use crate::fault::OpsFault;
+use crate::set_decoding::SET_MAGIC;
+use cs_blob::SuperWriter;
+use req_tree::{Bytes, ReqSet};
+use std::alloc::Global;
+
+/// The plain bytes of a set whose requirements can each be written: the parts under rising types,
+/// without gaps.
+pub fn encode_set(alloc: Global, set: &ReqSet) -> Result<Bytes, OpsFault>
+    requires { IsEncodableSet set.now }
+    ensures plain { IfOk result (λ bytes. bytes ≡ plain_set set.now) }
+    ensures short { IfOk result (λ bytes. length bytes ≤ 1048576) }
+    ensures fault { IfErr result (λ fault. (fault ≡ OpsFault.OutOfMemory) ⊎ ((fault ≡ OpsFault.TooLong) × (1048576 < length (plain_set set.now)))) }
+{
+    let mut writer = SuperWriter::new(alloc, SET_MAGIC);
+    match add_kinds(alloc, &mut writer, set) {
+        Ok(()) => finish(writer),
+        Err(fault) => Err(fault),
+    }
+}
+
+fn finish(writer: SuperWriter) -> Result<Bytes, OpsFault>
+    ensures { MatchResult result (λ bytes. (bytes ≡ written writer) × (length bytes ≤ 1048576)) (λ fault. (fault ≡ OpsFault.OutOfMemory) ⊎ ((fault ≡ OpsFault.TooLong) × (1048576 < length (written writer)))) }
+{
+    match writer.finish() {
+        Ok(bytes) => within(bytes),
+        Err(_) => Err(OpsFault::OutOfMemory),
+    }
+}
+
+fn within(bytes: Bytes) -> Result<Bytes, OpsFault>
+    ensures { MatchResult result (λ same. (same ≡ bytes) × (length bytes ≤ 1048576)) (λ fault. (fault ≡ OpsFault.TooLong) × (1048576 < length bytes)) }
+{
+    if bytes.as_slice().len() > MOST_BYTES {
+        return Err(OpsFault::TooLong);
+    }
+    Ok(bytes)
+}
+
+/// Adds the parts of all types to a writer that has none.
+fn add_kinds(alloc: Global, writer: &mut SuperWriter, set: &ReqSet) -> Result<(), OpsFault>
+    requires set { IsEncodableSet set.now }
+    requires empty { writer.old ≡ record { magic = set_magic; parts = [] } }
+    ensures { MatchResult result (λ _. IsDraftTo set.now 6 writer.new) (λ fault. (fault ≡ OpsFault.OutOfMemory) ⊎ ((fault ≡ OpsFault.TooLong) × ((kind : ℕ) × (kind < 6) × HasLongPart set.now kind))) }
+{
+    for kind in 0..6 {
+        match add_kind(alloc, writer, set, kind) {
+            Ok(()) => {}
+            Err(fault) => return Err(fault),
+        }
+    }
+    Ok(())
+}
+
+fn add_kind(
+    alloc: Global,
+    writer: &mut SuperWriter,
+    set: &ReqSet,
+    kind: u32,
+) -> Result<(), OpsFault>
+    requires set { IsEncodableSet set.now }
+    requires low { kind < 6 }
+    requires before { IsDraftTo set.now kind writer.old }
+    ensures { MatchResult result (λ _. IsDraftTo set.now (kind + 1) writer.new) (λ fault. (fault ≡ OpsFault.OutOfMemory) ⊎ ((fault ≡ OpsFault.TooLong) × HasLongPart set.now kind)) }
+{
+    match set.part(kind) {
+        None => Ok(()),
+        Some(req) => match encode(alloc, req) {
+            Ok(bytes) => add_bytes(alloc, writer, kind, bytes.as_slice()),
+            Err(fault) => Err(fault),
+        },
+    }
+}
+
+fn add_bytes(
+    alloc: Global,
+    writer: &mut SuperWriter,
+    kind: u32,
+    part: &[u8],
+) -> Result<(), OpsFault>
+    requires sized { IsSized part.now }
+    requires fits { add_fault writer.old.parts kind part.now ≡ None }
+    ensures { MatchResult result (λ _. writer.new ≡ record writer.old { parts = writer.old.parts ++ (kind, part.now) ∷ [] }) (λ fault. fault ≡ OpsFault.OutOfMemory) }
+{
+    match writer.add(alloc, kind, part) {
+        Ok(()) => Ok(()),
+        Err(_) => Err(OpsFault::OutOfMemory),
+    }
+}
