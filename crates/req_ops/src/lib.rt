@@ -22,3 +22,6 @@ pub use fault::{OpsFault, SetFault};
 pub use round_trip::{reread, respell};
 pub use set_decoding::decode_set;
 pub use set_encoding::encode_set;
+
+#[cfg(test)]
+mod tests;
