@@ -11,3 +11,4 @@ pub mod Written
 pub mod SetParts
 pub mod SetLaws
 pub mod SetWritten
+pub mod SetTests

@@ -1,12 +1,14 @@
 //! Which requirements can be written.
 
-ghost use Rattle.std.specs.Prelude.{◌≡◌, ◌↔◌, IsTrue};
+ghost use Rattle.std.specs.Prelude.{◌≡◌, ◌↔◌, IfSome, IsTrue};
 ghost use Rattle.req_tree.specs.Tree.{tree_of};
 ghost use Rattle.req_ops.specs.Spelling.{IsSkipFalse, IsSkipNext};
+ghost use Rattle.req_tree.specs.TreeSet.{part_of};
 ghost use Rattle.req_ops.specs.Encoding.{CanSpell, IsEncodable};
+ghost use Rattle.req_ops.specs.SetEncoding.{IsEncodableSet};
 
 use crate::field::is_reserved;
-use req_tree::{Req, depth};
+use req_tree::{Req, ReqSet, depth};
 
 /// Whether a requirement can be written: it is at most 256 deep, no key of a certificate's field begins
 /// as that of another opcode, and what it skips is an unknown opcode with the flag that says so.
@@ -16,6 +18,27 @@ pub fn is_encodable(req: &Req) -> bool
     let shallow = depth(req) <= 256;
     let spellable = can_spell(req);
     shallow && spellable
+}
+
+/// Whether each requirement of a set can be written.
+pub fn is_encodable_set(set: &ReqSet) -> bool
+    ensures { IsTrue result ↔ IsEncodableSet set.now }
+{
+    for kind in 0..6 {
+        if !is_encodable_part(set, kind) {
+            return false;
+        }
+    }
+    true
+}
+
+fn is_encodable_part(set: &ReqSet, kind: u32) -> bool
+    ensures { IsTrue result ↔ IfSome (part_of kind set.now) IsEncodable }
+{
+    match set.part(kind) {
+        None => true,
+        Some(req) => is_encodable(req),
+    }
 }
 
 fn can_spell(req: &Req) -> bool

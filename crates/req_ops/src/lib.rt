@@ -16,7 +16,7 @@ mod size;
 mod tree;
 
 pub use decoding::decode;
-pub use encodable::is_encodable;
+pub use encodable::{is_encodable, is_encodable_set};
 pub use encoding::encode;
 pub use fault::{OpsFault, SetFault};
 pub use round_trip::{reread, respell};

@@ -1,8 +1,11 @@
 //! Rows by the opcode table, from outside the program, and each call once with memory at hand.
 
-use crate::{OpsFault, SetFault, decode, decode_set, encode, is_encodable, reread, respell};
+use crate::{
+    OpsFault, SetFault, decode, decode_set, encode, encode_set, is_encodable, is_encodable_set,
+    reread, respell,
+};
 use cs_blob::BlobFault;
-use req_tree::Req;
+use req_tree::{Req, ReqSet};
 use std::alloc::Global;
 use std::test::Fail;
 
@@ -269,4 +272,23 @@ fn the_first_fault_of_a_set_is_told(rt: HostRuntime) {
         let fault = decode_set(rt.alloc(), bytes).err();
         assert_eq!(rt; fault, Some(want));
     }
+}
+
+fn is_designated(alloc: Global, set: &ReqSet) -> bool {
+    if !is_encodable_set(set) {
+        return false;
+    }
+    match encode_set(alloc, set) {
+        Ok(bytes) => bytes.as_slice() == DESIGNATED,
+        Err(_) => false,
+    }
+}
+
+#[test]
+fn a_set_is_written(rt: HostRuntime) {
+    let mut set = ReqSet::new();
+    set.put(3, Req::Always);
+    let written = is_designated(rt.alloc(), &set);
+    drop(set);
+    assert!(rt; written);
 }
