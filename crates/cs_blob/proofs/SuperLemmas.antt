@@ -22,17 +22,8 @@ no_index_fault magic whole (PartOutside index) s h = h.1 (s.fine index h.0.among
 no_index_fault magic whole (PartTwice index) s h = (s.fine index h.0.among).own_kind h.2.0 h.2.1 h.2.2
 no_index_fault magic whole (PartOverlap index) s h = (s.fine index h.0.among).apart h.3.0 h.3.1 h.3.2
 
+-- bytes that begin with a super-blob don't fail
 pub no_super : (magic : ℕ) (bytes whole rest : List ℕ) (fault : BlobFault) → SuperFails magic bytes fault → IsSuperBlob magic whole → bytes ≡ whole ++ rest → ⊥
 no_super magic bytes whole rest fault (inl h) s is = no_blob magic bytes whole rest fault h s.blob is
 no_super magic bytes whole rest fault (inr h) s is =
     no_index_fault magic whole fault s (subst (λ (w : List ℕ). IndexFails w fault) (whole_is magic bytes whole rest s.blob is) h.1)
-
--- the place of an entry that fails
-abbrev pub place_of : BlobFault → ℕ
-place_of Short = 0
-place_of BadMagic = 0
-place_of BadLength = 0
-place_of TooManyParts = 0
-place_of (PartOutside index) = index
-place_of (PartOverlap index) = index
-place_of (PartTwice index) = index

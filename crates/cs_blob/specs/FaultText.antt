@@ -3,6 +3,7 @@ use Rattle.std.specs.Prelude.{ℕ, List, ◌++◌, codes, decimal}
 use Rattle.cs_blob.specs.declared.fault.BlobFault.{BlobFault}
 use Rattle.cs_blob.specs.declared.fault.BlobFault.TheVariants.{Short, BadMagic, BadLength, TooManyParts, PartOutside, PartOverlap, PartTwice}
 
+-- the text of a refusal, as a line of the program has it
 abbrev pub blob_fault_text : BlobFault → List ℕ
 blob_fault_text Short = codes "1 Short"
 blob_fault_text BadMagic = codes "2 BadMagic"

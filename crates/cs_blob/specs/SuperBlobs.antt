@@ -1,13 +1,14 @@
 -- A super-blob: CS_SuperBlob of Apple's cs_blobs.h, a blob whose body is a count, that many entries of
 -- a type and an offset, and the parts.
--- This project's own: at most 64 parts; each lies behind the index and inside the super-blob; no two
--- overlap or have one type. Gaps may stand between them.
+-- This project's own: at most 64 parts; each begins behind the index and ends within the super-blob; no
+-- two share a byte or have one type. Between parts there may be gaps.
 use Rattle.std.specs.Prelude.{ℕ, ◌≡◌, ◌≢◌, ◌+◌, ◌*◌, ◌<◌, ◌≤◌, List, length, take, drop, ◌⊎◌, None, Some}
 use Rattle.cs_blob.specs.Numbers.{number_at}
 use Rattle.cs_blob.specs.Blobs.{IsBlob, blob_fault}
 use Rattle.cs_blob.specs.declared.fault.BlobFault.{BlobFault}
 use Rattle.cs_blob.specs.declared.fault.BlobFault.TheVariants.{Short, BadMagic, BadLength, TooManyParts, PartOutside, PartOverlap, PartTwice}
 
+-- how many parts the index tells of
 abbrev pub count_of : List ℕ → ℕ
 count_of whole = number_at 8 whole
 
@@ -15,13 +16,15 @@ count_of whole = number_at 8 whole
 abbrev pub index_end : List ℕ → ℕ
 index_end whole = 12 + 8 * count_of whole
 
--- type, offset and length of the part of an entry; the length is the part's own
+-- the type of the part of an entry
 abbrev pub kind_at : List ℕ → ℕ → ℕ
 kind_at whole index = number_at (12 + 8 * index) whole
 
+-- where that part begins, counted from the start of the super-blob
 abbrev pub offset_at : List ℕ → ℕ → ℕ
 offset_at whole index = number_at (16 + 8 * index) whole
 
+-- how long that part is, by its own header
 abbrev pub length_at : List ℕ → ℕ → ℕ
 length_at whole index = number_at (offset_at whole index + 4) whole
 

@@ -13,6 +13,7 @@ pub record Draft : Type 0 where
   pub magic : ℕ
   pub parts : List (ℕ × List ℕ)
 
+-- one of the parts has this type
 abbrev pub has_kind : List (ℕ × List ℕ) → ℕ → Bool
 has_kind parts kind = list_any (λ part. part.0 == kind) parts
 
@@ -48,6 +49,7 @@ abbrev pub AreParts : List (ℕ × List ℕ) → Type 0
 AreParts [] = Unit {0}
 AreParts (part ∷ parts) = IsSized part.1 × (part.0 < 2 ^ 32) × (has_kind parts part.0 ≡ false) × AreParts parts
 
+-- what a writer may hold: parts for one super-blob, within the limits of their number and size
 pub record IsDraft (parts : List (ℕ × List ℕ)) : Type 0 where
   pub sound : AreParts parts
   pub few : length parts ≤ 64

@@ -60,7 +60,7 @@ impl<'a> Blob<'a> {
         self.whole.split_at(8).1
     }
 
-    /// What follows the blob.
+    /// The bytes behind the blob.
     pub fn rest(&self) -> &'a [u8]
         ensures { result.now ≡ self.now.rest }
     {

@@ -10,19 +10,20 @@ use std::alloc::{AllocError, AllocFailed};
 /// the index from 0.
 #[derive(Clone, Copy, Debug, Drop, PartialEq, Eq, Hash)]
 pub enum BlobFault {
-    /// Fewer than 8 bytes; or the count of parts or the index doesn't fit into the super-blob.
+    /// The bytes end before a header does; or the super-blob has no room for the count of its parts, or
+    /// for as many entries.
     Short,
-    /// The magic is another.
+    /// Another magic stands at the front.
     BadMagic,
-    /// The length is below 8, or more than there is.
+    /// The header claims less than its own 8 bytes, or more bytes than were handed in.
     BadLength,
-    /// The count of parts fits, and is over 64.
+    /// There is room for the count, and it tells of more than 64 parts.
     TooManyParts,
-    /// The part begins before the end of the index, or doesn't lie in the super-blob whole.
+    /// The part would reach into the index or beyond the super-blob, or is shorter than a header.
     PartOutside { index: u32 },
-    /// The part overlaps an earlier one.
+    /// A byte of the part belongs to a part of an entry before.
     PartOverlap { index: u32 },
-    /// An earlier entry has the same type.
+    /// The type was seen at an entry before.
     PartTwice { index: u32 },
 }
 
@@ -61,11 +62,11 @@ fn push_field(out: &mut LineText, name: &[u8], number: u32)
 /// Why a part can't be added: the first of these that holds, in this order.
 #[derive(Clone, Copy, Debug, Drop, PartialEq, Eq, Hash)]
 pub enum WriterFault {
-    /// A part of this type is there.
+    /// The type is taken.
     PartTwice,
-    /// 64 parts are there.
+    /// The index is full: it has 64 entries.
     TooManyParts,
-    /// With the part the super-blob would have over 16,777,216 bytes.
+    /// The whole would grow beyond 16 MiB.
     TooLong,
     OutOfMemory,
 }

@@ -77,7 +77,14 @@ impl<'a> SuperBlob<'a> {
         None
     }
 
-    /// What follows the super-blob.
+    /// The bytes of the super-blob itself: header, index, parts and the gaps between them.
+    pub fn whole(&self) -> &'a [u8]
+        ensures { result.now ≡ self.now.whole }
+    {
+        self.whole
+    }
+
+    /// The bytes behind the super-blob.
     pub fn rest(&self) -> &'a [u8]
         ensures { result.now ≡ self.now.rest }
     {

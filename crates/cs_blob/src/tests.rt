@@ -55,6 +55,7 @@ fn a_part_is_a_slice_of_the_bytes(rt: HostRuntime) -> Result<(), Fail> {
     assert_eq!(rt; set.kind_at(0), 3);
     assert_eq!(rt; set.part(3), Some(b"\xfa\xde\x0c\x00\0\0\0\x08".as_slice()));
     assert_eq!(rt; set.part(1), None);
+    assert_eq!(rt; set.whole(), bytes.split_at(32).0);
     assert_eq!(rt; set.rest(), b"more".as_slice());
     let blob = Blob::read(b"\xfa\xde\x0c\x00\0\0\0\x0abody", REQUIREMENT)?;
     assert_eq!(rt; blob.whole().len(), 10);

@@ -71,8 +71,8 @@ impl SuperWriter {
         Ok(())
     }
 
-    /// The super-blob with the parts in the order in which they were added, without gaps. It reads
-    /// back as just these parts.
+    /// The super-blob. Its parts stand close behind the index, the first that was added foremost, and it
+    /// reads back as just these parts.
     pub fn finish(self) -> Result<Bytes, AllocError>
         ensures written { IfOk result (λ bytes. bytes ≡ written self) }
         ensures reads { IfOk result (λ bytes. IsSuperBlob self.magic bytes × Holds self.parts bytes) }
