@@ -1,3 +1,4 @@
 pub mod NormalLemmas
 pub mod OidNumbers
+pub mod OidTest
 pub mod OidTexts

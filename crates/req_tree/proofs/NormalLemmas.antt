@@ -1,5 +1,5 @@
 -- The three laws of the normal form.
-use Rattle.std.proofs.Common.{◌≡◌, Bool, true, false, ◌&&◌, ◌||◌, not, List, [], ◌∷◌, ◌++◌, refl, sym, ap, ◌∙◌}
+use Rattle.std.proofs.Common.{◌≡◌, Bool, true, false, ◌&&◌, ◌||◌, not, List, [], ◌∷◌, ◌++◌, refl, sym, ap, subst, ◌∙◌}
 use Rattle.std.specs.List.{fold}
 use Rattle.req_tree.specs.Tree as t
 use Rattle.req_tree.specs.Tree.{Tree}
@@ -184,19 +184,20 @@ own_operand_both : (tree : Tree) → is_both tree ≡ false → operands_of_both
 own_operand_both (t.both left right) h = cc
 own_operand_both tree h = refl
 
-fold_both-append : (x : Tree) (xs : List Tree) (y : Tree) → fold t.both x (xs ++ y ∷ []) ≡ t.both (fold t.both x xs) y
-fold_both-append x [] y = refl
-fold_both-append x (z ∷ xs) y = fold_both-append (t.both x z) xs y
+-- operands behind operands join what those before them made
+fold-append : (join : Tree → Tree → Tree) (x : Tree) (xs ys : List Tree) → fold join x (xs ++ ys) ≡ fold join (fold join x xs) ys
+fold-append join x [] ys = refl
+fold-append join x (z ∷ xs) ys = fold-append join (join x z) xs ys
 
-nest_both-append : (xs : List Tree) (y : Tree) → HasSome xs → left_nest t.both (xs ++ y ∷ []) ≡ t.both (left_nest t.both xs) y
-nest_both-append [] y h = absurd h
-nest_both-append (x ∷ xs) y h = fold_both-append x xs y
+nest-append : (join : Tree → Tree → Tree) (xs ys : List Tree) → HasSome xs → left_nest join (xs ++ ys) ≡ fold join (left_nest join xs) ys
+nest-append join [] ys h = absurd h
+nest-append join (x ∷ xs) ys h = fold-append join x xs ys
 
 -- a spoken tree is the left nest of its operands
 again_both : (tree : Tree) → IsSpoken tree → left_nest t.both (operands_of_both tree) ≡ tree
 again_both (t.both left right) h =
     ap (λ ys. left_nest t.both (operands_of_both left ++ ys)) (own_operand_both right h.2)
-    ∙ nest_both-append (operands_of_both left) right (some_operand_both left)
+    ∙ nest-append t.both (operands_of_both left) (right ∷ []) (some_operand_both left)
     ∙ ap (λ (x : Tree). t.both x right) (again_both left h.0)
 again_both tree h = refl
 
@@ -205,19 +206,11 @@ own_operand_either : (tree : Tree) → is_either tree ≡ false → operands_of_
 own_operand_either (t.either left right) h = cc
 own_operand_either tree h = refl
 
-fold_either-append : (x : Tree) (xs : List Tree) (y : Tree) → fold t.either x (xs ++ y ∷ []) ≡ t.either (fold t.either x xs) y
-fold_either-append x [] y = refl
-fold_either-append x (z ∷ xs) y = fold_either-append (t.either x z) xs y
-
-nest_either-append : (xs : List Tree) (y : Tree) → HasSome xs → left_nest t.either (xs ++ y ∷ []) ≡ t.either (left_nest t.either xs) y
-nest_either-append [] y h = absurd h
-nest_either-append (x ∷ xs) y h = fold_either-append x xs y
-
 -- a spoken tree is the left nest of its operands
 again_either : (tree : Tree) → IsSpoken tree → left_nest t.either (operands_of_either tree) ≡ tree
 again_either (t.either left right) h =
     ap (λ ys. left_nest t.either (operands_of_either left ++ ys)) (own_operand_either right h.2)
-    ∙ nest_either-append (operands_of_either left) right (some_operand_either left)
+    ∙ nest-append t.either (operands_of_either left) (right ∷ []) (some_operand_either left)
     ∙ ap (λ (x : Tree). t.either x right) (again_either left h.0)
 again_either tree h = refl
 
@@ -236,3 +229,29 @@ normal_again (t.legacy_info key value) h = absurd h
 normal_again (t.skip_false op skipped) h = absurd h
 normal_again (t.skip_next op skipped inner) h = absurd h
 normal_again tree h = refl
+
+-- a spoken tree takes the operands of another behind its own
+pub both_behind : (front back : Tree) → IsSpoken front → fold t.both front (operands_of_both back) ≡ left_nest t.both (operands_of_both front ++ operands_of_both back)
+both_behind front back h =
+    sym (nest-append t.both (operands_of_both front) (operands_of_both back) (some_operand_both front) ∙ ap (λ (x : Tree). fold t.both x (operands_of_both back)) (again_both front h))
+
+pub either_behind : (front back : Tree) → IsSpoken front → fold t.either front (operands_of_either back) ≡ left_nest t.either (operands_of_either front ++ operands_of_either back)
+either_behind front back h =
+    sym (nest-append t.either (operands_of_either front) (operands_of_either back) (some_operand_either front) ∙ ap (λ (x : Tree). fold t.either x (operands_of_either back)) (again_either front h))
+
+-- what equals a normal form is spoken
+pub spoken_when : (tree whole : Tree) → tree ≡ normal whole → IsSpoken tree
+spoken_when tree whole e = subst IsSpoken (sym e) (normal_spoken whole)
+
+-- two normal forms in one chain are the normal form of the two
+pub both_normal : (front back left right : Tree) → front ≡ normal left → back ≡ normal right → fold t.both front (operands_of_both back) ≡ normal (t.both left right)
+both_normal front back left right e f =
+    both_behind front back (spoken_when front left e)
+    ∙ ap (λ (x : Tree). left_nest t.both (operands_of_both x ++ operands_of_both back)) e
+    ∙ ap (λ (y : Tree). left_nest t.both (operands_of_both (normal left) ++ operands_of_both y)) f
+
+pub either_normal : (front back left right : Tree) → front ≡ normal left → back ≡ normal right → fold t.either front (operands_of_either back) ≡ normal (t.either left right)
+either_normal front back left right e f =
+    either_behind front back (spoken_when front left e)
+    ∙ ap (λ (x : Tree). left_nest t.either (operands_of_either x ++ operands_of_either back)) e
+    ∙ ap (λ (y : Tree). left_nest t.either (operands_of_either (normal left) ++ operands_of_either y)) f

@@ -5,6 +5,7 @@ use Rattle.std.specs.List.{fold}
 use Rattle.std.proofs.lemmas.List.Elements.{All-nil, All-cons, All-head, All-tail}
 use Rattle.req_tree.specs.Oid.{WritesNumber, WriteNumbers, IsOid, IsOidBytes, HasNumbers}
 use Rattle.req_tree.specs.OidReading.{number_from, number_at}
+pub use Rattle.req_tree.specs.Oid.{IsBytes}
 
 -- the number after a part of it
 abbrev pub base_from : ℕ → List ℕ → ℕ
@@ -58,10 +59,6 @@ number_from-reads (b ∷ front) part last rest high end small =
     let b_high : 128 ≤ b = high.0.0 in
     let goes_on : nat_lt b 128 ≡ false = grind (arith, nat_tests, b_high) in
     then_else _ _ _ _ _ fits goes_on ∙ number_from-reads front (128 * part + b % 128) last rest high.1 end small
-
--- each element is a byte
-abbrev pub IsBytes : List ℕ → Type 0
-IsBytes bytes = (i : ℕ) → slice_index bytes i < 256
 
 number_in : Option (ℕ × List ℕ) → ℕ
 number_in None = 0
@@ -362,7 +359,7 @@ oid_from bytes some has = by_numbers has.0 has.1
     by_numbers [] w = absurd (some w)
     by_numbers (n ∷ ns) w = (_, oid_of_numbers n ns bytes w)
 
-empty_when : (xs : List ℕ) → (length xs == 0) ≡ true → xs ≡ []
+pub empty_when : (xs : List ℕ) → (length xs == 0) ≡ true → xs ≡ []
 empty_when [] h = refl
 empty_when (x ∷ xs) h = absurd (grind (arith, nat_tests, h))
 
@@ -383,6 +380,3 @@ is_oid_when bytes numbers none e some h =
   where
     test_differs : (b : Bool) → b ≡ (length bytes == 0) → b ≡ false → bytes ≡ [] → ⊥
     test_differs b e some none = let is : (length bytes == 0) ≡ true = tested_empty bytes none in cc
-
-pub no_bytes_no_oid : (bytes : List ℕ) (none : Bool) → none ≡ (length bytes == 0) → none ≡ true → IsOidBytes bytes → ⊥
-no_bytes_no_oid bytes none e is oid = oid_some bytes oid (empty_when bytes (sym e ∙ is))

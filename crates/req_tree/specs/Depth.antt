@@ -3,6 +3,7 @@ use Rattle.std.specs.Prelude.{ℕ, ◌+◌, max}
 use Rattle.req_tree.specs.Tree as t
 use Rattle.req_tree.specs.Tree.{Tree}
 
+-- one more than its deepest subtree
 abbrev pub depth_of : Tree → ℕ
 depth_of (t.both left right) = max (depth_of left) (depth_of right) + 1
 depth_of (t.either left right) = max (depth_of left) (depth_of right) + 1

@@ -9,6 +9,7 @@ pub data Value : Type 0 where
   truth : Bool → Value
   texts : List (List ℕ) → Value
 
+-- a certificate: its hash, whether it is trusted, and its values by field, extension and policy
 pub record Certificate : Type 0 where
   pub hash : List ℕ
   pub trusted : Bool
@@ -28,6 +29,7 @@ pub record Known : Type 0 where
   pub info : List (List ℕ × Value)
   pub entitlements : List (List ℕ × Value)
 
+-- what is known, by cdhash
 abbrev pub Facts : Type 0
 Facts = List (List ℕ × Known)
 

@@ -30,11 +30,12 @@ text_match bytes (Greater datum) = is_gt (numeric_order bytes datum)
 text_match bytes (LessEqual datum) = is_le (numeric_order bytes datum)
 text_match bytes (GreaterEqual datum) = is_ge (numeric_order bytes datum)
 
--- Exists and Absent ask whether a value is there
+-- the test asks only that a value be there
 abbrev pub is_exists : Match → Bool
 is_exists Exists = true
 is_exists test = false
 
+-- the test asks that no value be there
 abbrev pub is_absent : Match → Bool
 is_absent Absent = true
 is_absent test = false
@@ -57,6 +58,7 @@ abbrev pub of_cert : Option Certificate → (Certificate → Bool) → Bool
 of_cert None test = false
 of_cert (Some certificate) test = test certificate
 
+-- the name is one of these, byte for byte
 abbrev pub names : List (List ℕ) → List ℕ → Bool
 names all name = list_any (λ other. bytes_eq other name) all
 
@@ -64,6 +66,7 @@ names all name = list_any (λ other. bytes_eq other name) all
 abbrev pub known : Subject → Facts → Known
 known s f = known_of f s.cdhash
 
+-- whether the requirement holds
 abbrev pub mean : Tree → Subject → Facts → Bool
 mean t.never s f = false
 mean t.always s f = true

@@ -5,10 +5,12 @@ use Rattle.req_tree.specs.declared.matching.Match.TheVariants.{Equal}
 use Rattle.req_tree.specs.Tree as t
 use Rattle.req_tree.specs.Tree.{Tree}
 
+-- the tree joins two by Both
 abbrev pub is_both : Tree → Bool
 is_both (t.both left right) = true
 is_both tree = false
 
+-- the tree joins two by Either
 abbrev pub is_either : Tree → Bool
 is_either (t.either left right) = true
 is_either tree = false
@@ -24,11 +26,12 @@ IsSpoken (t.skip_false op skipped) = ⊥
 IsSpoken (t.skip_next op skipped inner) = ⊥
 IsSpoken tree = Unit {0}
 
--- the operands of a chain, from the left, however it nests
+-- the operands of a chain of Both, from the left, however it nests
 abbrev pub operands_of_both : Tree → List Tree
 operands_of_both (t.both left right) = operands_of_both left ++ operands_of_both right
 operands_of_both tree = tree ∷ []
 
+-- the same of a chain of Either
 abbrev pub operands_of_either : Tree → List Tree
 operands_of_either (t.either left right) = operands_of_either left ++ operands_of_either right
 operands_of_either tree = tree ∷ []

@@ -10,6 +10,7 @@ pub data Item : Type 0 where
   run : List ℕ → Item
   other : ℕ → Item
 
+-- the byte is one of 0 to 9 in ASCII
 abbrev pub is_digit : ℕ → Bool
 is_digit b = nat_le 48 b && nat_le b 57
 
@@ -28,6 +29,7 @@ items (b ∷ rest) = if is_digit b then with_digit b (items rest) else other b �
 abbrev pub number_of : List ℕ → ℕ
 number_of digits = fold (λ n b. 10 * n + (b - 48)) 0 digits
 
+-- the byte that a run begins with
 abbrev pub first_of_run : List ℕ → ℕ
 first_of_run [] = 0
 first_of_run (b ∷ digits) = b
@@ -52,5 +54,6 @@ items_cmp [] (b ∷ ys) = Less
 items_cmp (a ∷ xs) [] = Greater
 items_cmp (a ∷ xs) (b ∷ ys) = unless_tied (item_cmp a b) (items_cmp xs ys)
 
+-- how one text stands to another
 abbrev pub numeric_order : List ℕ → List ℕ → Ordering
 numeric_order a b = items_cmp (items a) (items b)

@@ -29,6 +29,10 @@ abbrev pub WriteNumbers : List ℕ → List ℕ → Type 0
 WriteNumbers [] bytes = bytes ≡ []
 WriteNumbers (n ∷ numbers) bytes = (front rest : List ℕ) × (bytes ≡ front ++ rest) × WritesNumber n front × WriteNumbers numbers rest
 
+-- each element of the list is a byte
+abbrev pub IsBytes : List ℕ → Type 0
+IsBytes bytes = (i : ℕ) → slice_index bytes i < 256
+
 -- the bytes are whole numbers
 abbrev pub HasNumbers : List ℕ → Type 0
 HasNumbers bytes = (numbers : List ℕ) × WriteNumbers numbers bytes

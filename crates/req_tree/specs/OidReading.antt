@@ -1,5 +1,5 @@
 -- How bytes and texts are read as object identifiers, from the left, and what is wrong first.
-use Rattle.std.specs.Prelude.{ℕ, ◌+◌, ◌*◌, ◌%◌, ◌^◌, Bool, true, false, ◌==◌, nat_lt, nat_le, not, ◌&&◌, ◌||◌, if◌then◌else◌, List, [], ◌∷◌, ◌++◌, Option, None, Some, Result, Ok, Err, ◌≡◌, ◌≢◌, min, slice_index, decimal, MatchOption, MatchResult}
+use Rattle.std.specs.Prelude.{ℕ, zero, suc, ◌+◌, ◌*◌, ◌%◌, ◌^◌, Bool, true, false, ◌==◌, nat_lt, nat_le, not, ◌&&◌, ◌||◌, if◌then◌else◌, List, [], ◌∷◌, ◌++◌, length, Option, None, Some, Result, Ok, Err, ◌≡◌, ◌≢◌, min, slice_index, decimal, MatchOption, MatchResult}
 use Rattle.std.specs.List.{slice_split}
 use Rattle.std.specs.Str.{all_ascii_digits}
 use Rattle.req_tree.specs.Oid.{WriteNumbers}
@@ -21,6 +21,16 @@ number_from part (b ∷ rest) =
 -- a number does not begin with 128, which would add nothing
 abbrev pub number_at : List ℕ → Option (ℕ × List ℕ)
 number_at bytes = if slice_index bytes 0 == 128 then None else number_from 0 bytes
+
+-- behind a number that was read whole numbers fill the rest; the count bounds how many
+abbrev pub numbers_behind : ℕ → Option (ℕ × List ℕ) → Bool
+numbers_behind count None = false
+numbers_behind zero (Some p) = length p.1 == 0
+numbers_behind (suc count) (Some p) = length p.1 == 0 || numbers_behind count (number_at p.1)
+
+-- whole numbers fill the bytes, and there is one
+unfoldable pub is_oid : List ℕ → Bool
+is_oid bytes = numbers_behind (length bytes) (number_at bytes)
 
 -- the words between the dots
 abbrev pub arc_words : List ℕ → List (List ℕ)
@@ -63,10 +73,12 @@ before (Err fault) rest = Err fault
 before (Ok n) (Err fault) = Err fault
 before (Ok n) (Ok numbers) = Ok (n ∷ numbers)
 
+-- the numbers of the arcs behind the second
 abbrev pub later_numbers : List (List ℕ) → Result (List ℕ) OidFault
 later_numbers [] = Ok []
 later_numbers (word ∷ words) = before (arc_number word) (later_numbers words)
 
+-- the first number, where there is one, before those of the words that follow
 abbrev pub from_first : Result (ℕ × List (List ℕ)) OidFault → Result (List ℕ) OidFault
 from_first (Err fault) = Err fault
 from_first (Ok p) = before (Ok p.0) (later_numbers p.1)

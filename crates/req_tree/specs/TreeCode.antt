@@ -71,5 +71,6 @@ tree_of-req_of t.legacy_dev_id = refl
 tree_of-req_of (t.skip_false op skipped) = refl
 tree_of-req_of (t.skip_next op skipped inner) = ap (t.skip_next op skipped) (tree_of-req_of inner)
 
+-- trees by requirements
 abbrev pub tree_code : Coded Tree
 tree_code = code_by Req req_contract.the_row.coded req_of tree_of tree_of-req_of

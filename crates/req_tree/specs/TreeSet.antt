@@ -5,6 +5,7 @@ use Rattle.std.specs.Coded.{Coded, code_by, coded_option, coded×}
 use Rattle.req_tree.specs.Tree.{Tree}
 use Rattle.req_tree.specs.TreeCode.{tree_code}
 
+-- the tree of each type, where there is one
 pub record TreeSet : Type 0 where
   pub host : Option Tree
   pub guest : Option Tree
@@ -16,6 +17,7 @@ pub record TreeSet : Type 0 where
 abbrev pub IsSetKind : ℕ → Type 0
 IsSetKind kind = (1 ≤ kind) × (kind ≤ 5)
 
+-- the set without trees
 abbrev pub no_parts : TreeSet
 no_parts = record { host = None; guest = None; designated = None; library = None; plugin = None }
 

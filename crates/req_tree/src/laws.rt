@@ -1,12 +1,13 @@
 //! Laws over the definitions alone.
 
-ghost use Rattle.std.specs.Prelude.{◌≡◌, ℕ, List};
+ghost use Rattle.std.specs.Prelude.{◌≡◌, ◌↔◌, ℕ, List, true};
 ghost use Rattle.req_tree.specs.Tree.{Tree};
 ghost use Rattle.req_tree.specs.Subject.{Subject};
 ghost use Rattle.req_tree.specs.Facts.{Facts};
 ghost use Rattle.req_tree.specs.Meaning.{mean};
 ghost use Rattle.req_tree.specs.Normal.{IsSpoken, normal};
-ghost use Rattle.req_tree.specs.Oid.{IsOidText};
+ghost use Rattle.req_tree.specs.Oid.{IsBytes, IsOidBytes, IsOidText};
+ghost use Rattle.req_tree.specs.OidReading.{is_oid};
 
 /// Each normal form is spoken.
 pub fn normal_forms_are_spoken()
@@ -31,4 +32,9 @@ pub fn a_text_has_one_oid()
 /// An object identifier has one text at most. `oid_to_text` shows that it has one.
 pub fn an_oid_has_one_text()
     ensures { (oid first second : List ℕ) → IsOidText oid first → IsOidText oid second → first ≡ second }
+{}
+
+/// Bytes are read as an object identifier exactly where they are those of one.
+pub fn an_oid_is_read_where_it_is()
+    ensures { (bytes : List ℕ) → IsBytes bytes → (is_oid bytes ≡ true) ↔ IsOidBytes bytes }
 {}

@@ -1,7 +1,8 @@
 //! Object identifiers, as their bytes.
 
-ghost use Rattle.std.specs.Prelude.{◌≡◌};
+ghost use Rattle.std.specs.Prelude.{◌≡◌, true};
 ghost use Rattle.req_tree.specs.Oid.{IsOidBytes};
+ghost use Rattle.req_tree.specs.OidReading.{is_oid};
 
 use crate::bytes::Bytes;
 use std::hash::{Hash, Hasher};
@@ -35,6 +36,7 @@ impl Oid {
     pub fn as_slice(&self) -> &[u8]
         ensures bytes { result.now ≡ self.now }
         ensures oid { IsOidBytes self.now }
+        ensures read { is_oid self.now ≡ true }
     {
         self.bytes.as_slice()
     }

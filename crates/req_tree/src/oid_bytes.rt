@@ -1,6 +1,6 @@
 //! Object identifiers read from bytes and written to them: numbers in base 128.
 
-ghost use Rattle.std.specs.Prelude.{◌≡◌, ◌↔◌, ◌<◌, ◌++◌, ℕ, List, length, option_map, IfOk, IfSome, OnOk, IsErrOf, IsTrue};
+ghost use Rattle.std.specs.Prelude.{◌≡◌, ◌↔◌, ◌<◌, ◌++◌, ℕ, List, length, true, false, option_map, IfOk, IfSome, OnOk, IsErrOf, IsTrue};
 ghost use Rattle.req_tree.specs.Oid.{IsOidBytes, HasNumbers, WritesNumber, IsFront};
 ghost use Rattle.req_tree.specs.OidReading as reading;
 
@@ -14,6 +14,10 @@ pub fn oid_from_bytes(alloc: Global, bytes: &[u8]) -> Result<Oid, OidBytesFault>
     ensures bytes { IfOk result (λ oid. oid ≡ bytes.now) }
     ensures found { OnOk result (IsOidBytes bytes.now) }
     ensures bad { IsErrOf result OidBytesFault.BadOid ↔ ¬ (IsOidBytes bytes.now) }
+
+    // The same in the words of the reading.
+    ensures read { OnOk result (reading.is_oid bytes.now ≡ true) }
+    ensures refused { IsErrOf result OidBytesFault.BadOid → reading.is_oid bytes.now ≡ false }
 {
     if !is_oid(bytes) {
         return Err(OidBytesFault::BadOid);
@@ -22,8 +26,10 @@ pub fn oid_from_bytes(alloc: Global, bytes: &[u8]) -> Result<Oid, OidBytesFault>
     Ok(Oid::held(bytes))
 }
 
-fn is_oid(bytes: &[u8]) -> bool
-    ensures { IsTrue result ↔ IsOidBytes bytes.now }
+/// Whether bytes are those of an object identifier.
+pub fn is_oid(bytes: &[u8]) -> bool
+    ensures oid { IsTrue result ↔ IsOidBytes bytes.now }
+    ensures read { result ≡ reading.is_oid bytes.now }
 {
     if bytes.is_empty() {
         return false;

@@ -2,7 +2,7 @@
 
 use crate::{
     Bytes, Hash20, Identifier, LineText, Match, OidBytesFault, OidFault, Req, ReqSet, SharedReq,
-    Subject, depth, is_spoken, oid_from_bytes, oid_from_text, oid_to_text,
+    Subject, depth, is_oid, is_spoken, oid_from_bytes, oid_from_text, oid_to_text,
 };
 use std::alloc::Global;
 use std::test::Fail;
@@ -55,6 +55,7 @@ fn object_identifiers_read_and_print(rt: HostRuntime) -> Result<(), Fail> {
     let alloc = rt.alloc();
     for (text, bytes) in OBJECT_IDENTIFIERS {
         assert_eq!(rt; oid_from_text(alloc, text)?.as_slice(), bytes);
+        assert!(rt; is_oid(bytes));
         let oid = oid_from_bytes(alloc, bytes)?;
         assert_eq!(rt; oid_to_text(alloc, &oid)?.as_slice(), text);
     }
@@ -68,6 +69,7 @@ fn the_first_bad_arc_is_told(rt: HostRuntime) {
         assert_eq!(rt; oid_from_text(alloc, text).err(), Some(want));
     }
     for bytes in BAD_BYTES {
+        assert!(rt; !is_oid(bytes));
         assert_eq!(rt;
             oid_from_bytes(alloc, bytes).err(),
             Some(OidBytesFault::BadOid)
@@ -105,6 +107,57 @@ fn trees_are_built_shared_and_kept(rt: HostRuntime) -> Result<(), Fail> {
     set.put(3, Req::Never);
     assert!(rt; set.part(3) == Some(&Req::Never));
     Ok(())
+}
+
+// (anchor and (notarized and unknown not info = x)) or (unknown or always), by hand.
+#[test]
+fn normal_forms_nest_to_the_left(rt: HostRuntime) -> Result<(), Fail> {
+    let alloc = rt.alloc();
+    let old = Req::LegacyInfo {
+        key: Bytes::copy_of(alloc, b"key")?,
+        value: Bytes::copy_of(alloc, b"x")?,
+    };
+    let skipped = Req::SkipNext {
+        op: 0x2000_0030,
+        skipped: Bytes::empty(alloc),
+        inner: Box::new(alloc, not(alloc, old)?)?,
+    };
+    let unknown = Req::SkipFalse {
+        op: 0x4000_0030,
+        skipped: Bytes::empty(alloc),
+    };
+    let chain = both(
+        alloc,
+        Req::AppleAnchor,
+        both(alloc, Req::Notarized, skipped)?,
+    )?;
+    let given = either(alloc, chain, either(alloc, unknown, Req::Always)?)?;
+    let new = Req::InfoField {
+        key: Bytes::copy_of(alloc, b"key")?,
+        test: Match::Equal(Bytes::copy_of(alloc, b"x")?),
+    };
+    let chain = both(alloc, Req::AppleAnchor, Req::Notarized)?;
+    let chain = both(alloc, chain, not(alloc, new)?)?;
+    let want = either(alloc, either(alloc, chain, Req::Never)?, Req::Always)?;
+    assert!(rt; given.into_normal(alloc)? == want);
+    Ok(())
+}
+
+fn both(alloc: Global, left: Req, right: Req) -> Result<Req, Fail> {
+    let left = Box::new(alloc, left)?;
+    let right = Box::new(alloc, right)?;
+    Ok(Req::Both { left, right })
+}
+
+fn either(alloc: Global, left: Req, right: Req) -> Result<Req, Fail> {
+    let left = Box::new(alloc, left)?;
+    let right = Box::new(alloc, right)?;
+    Ok(Req::Either { left, right })
+}
+
+fn not(alloc: Global, inner: Req) -> Result<Req, Fail> {
+    let inner = Box::new(alloc, inner)?;
+    Ok(Req::Negate { inner })
 }
 
 fn subject(alloc: Global) -> Result<Option<Subject>, Fail> {

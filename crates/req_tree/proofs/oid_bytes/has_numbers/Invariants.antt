@@ -1,6 +1,5 @@
 use Rattle.std.proofs.Common.{length}
-use Rattle.req_tree.specs.Oid.{HasNumbers}
-use Rattle.req_tree.proofs.OidNumbers.{IsBytes}
+use Rattle.req_tree.specs.Oid.{HasNumbers, IsBytes}
 use Rattle.req_tree.proofs.oid_bytes.has_numbers.Given as goal
 
 abbrev pub invariant-loop-after : goal.invariant-loop-after
