@@ -84,8 +84,10 @@ impl Sink for MemorySink {
         ensures bytes { PutAppends (Some (sink_written self.old)) (Some (sink_written self.new)) result bytes.now }
         ensures keeps { Keeps (Some (sink_flushed self.old)) (Some (sink_flushed self.new)) }
         ensures telling { is_some (Some (sink_written self.new)) ≡ is_some (Some (sink_written self.old)) }
+        ensures flushed_telling { is_some (Some (sink_flushed self.new)) ≡ is_some (Some (sink_flushed self.old)) }
         ensures later { sink_faults self.old ≤ sink_faults self.new }
         ensures cause { OnErr result (Rose (sink_faults self.old) (sink_faults self.new)) }
+        ensures steady { OnOk result (sink_faults self.new ≡ sink_faults self.old) }
 
         // The calls that fail are those that were named and those of too many bytes, and each is counted.
         ensures fails { IsErr result ↔ (Contains (sink_failing self.old) (counted (sink_calls self.old))
@@ -112,8 +114,10 @@ impl Sink for MemorySink {
         ensures bytes { Keeps (Some (sink_written self.old)) (Some (sink_written self.new)) }
         ensures flushes { OnOk result (IsFlushed (Some (sink_flushed self.new)) (Some (sink_written self.new))) }
         ensures telling { is_some (Some (sink_written self.new)) ≡ is_some (Some (sink_written self.old)) }
+        ensures flushed_telling { is_some (Some (sink_flushed self.new)) ≡ is_some (Some (sink_flushed self.old)) }
         ensures later { sink_faults self.old ≤ sink_faults self.new }
         ensures cause { OnErr result (Rose (sink_faults self.old) (sink_faults self.new)) }
+        ensures steady { OnOk result (sink_faults self.new ≡ sink_faults self.old) }
 
         // The calls that fail are those that were named, and each is counted.
         ensures fails { IsErr result ↔ Contains (sink_failing self.old) (counted (sink_calls self.old)) }

@@ -1,6 +1,6 @@
 //! A source over bytes in memory, some of whose calls fail.
 
-ghost use Rattle.std.specs.Prelude.{◌≡◌, ◌≤◌, ◌↔◌, Some, List, [], OnErr, IsErr, Contains, is_ok, is_some, length, min, take, if◌then◌else◌};
+ghost use Rattle.std.specs.Prelude.{◌≡◌, ◌≤◌, ◌↔◌, Some, List, [], OnOk, OnErr, IsErr, Contains, is_ok, is_some, length, min, take, if◌then◌else◌};
 ghost use Rattle.std.specs.Io.{ReadsAtMost};
 ghost use Rattle.std.specs.Io.KnownBytes.{ReadConsumes};
 ghost use Rattle.gk_io.specs.Faults.{Rose, counted};
@@ -59,6 +59,7 @@ impl Source for MemorySource {
         ensures telling { is_some (Some (source_left self.new)) ≡ is_some (Some (source_left self.old)) }
         ensures later { source_faults self.old ≤ source_faults self.new }
         ensures cause { OnErr result (Rose (source_faults self.old) (source_faults self.new)) }
+        ensures steady { OnOk result (source_faults self.new ≡ source_faults self.old) }
 
         // The calls that fail are those that were named, and each is counted.
         ensures fails { IsErr result ↔ Contains (source_failing self.old) (counted (source_calls self.old)) }

@@ -23,18 +23,22 @@ pub trait Sink {
         ensures bytes { PutAppends (written self.old) (written self.new) result bytes.now }
         ensures keeps { Keeps (flushed self.old) (flushed self.new) }
         ensures telling { is_some (written self.new) ≡ is_some (written self.old) }
+        ensures flushed_telling { is_some (flushed self.new) ≡ is_some (flushed self.old) }
 
-        // A failure shows in the count, which never falls.
+        // A failure shows in the count, which never falls, and nothing else moves it.
         ensures later { faults self.old ≤ faults self.new }
-        ensures cause { OnErr result (Rose (faults self.old) (faults self.new)) };
+        ensures cause { OnErr result (Rose (faults self.old) (faults self.new)) }
+        ensures steady { OnOk result (faults self.new ≡ faults self.old) };
 
     /// Hands on what was written. The bytes stay written whether it fails or not.
     fn flush(&mut self) -> Result<(), Failed>
         ensures bytes { Keeps (written self.old) (written self.new) }
         ensures flushes { OnOk result (IsFlushed (flushed self.new) (written self.new)) }
         ensures telling { is_some (written self.new) ≡ is_some (written self.old) }
+        ensures flushed_telling { is_some (flushed self.new) ≡ is_some (flushed self.old) }
 
-        // A failure shows in the count, which never falls.
+        // A failure shows in the count, which never falls, and nothing else moves it.
         ensures later { faults self.old ≤ faults self.new }
-        ensures cause { OnErr result (Rose (faults self.old) (faults self.new)) };
+        ensures cause { OnErr result (Rose (faults self.old) (faults self.new)) }
+        ensures steady { OnOk result (faults self.new ≡ faults self.old) };
 }

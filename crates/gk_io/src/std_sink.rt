@@ -47,8 +47,10 @@ impl<W: Write> Sink for StdSink<W> {
         ensures bytes { PutAppends None None result bytes.now }
         ensures keeps { Keeps None None }
         ensures telling { is_some {T = List ℕ} None ≡ is_some {T = List ℕ} None }
+        ensures flushed_telling { is_some {T = List ℕ} None ≡ is_some {T = List ℕ} None }
         ensures later { self.old.faults ≤ self.new.faults }
         ensures cause { OnErr result (Rose self.old.faults self.new.faults) }
+        ensures steady { OnOk result (self.new.faults ≡ self.old.faults) }
 
         // Where the writer tells its bytes, it gained all of them, or a front at a failure.
         ensures passes { PutAppends (W.contents self.old.inner) (W.contents self.new.inner) result bytes.now }
@@ -75,8 +77,10 @@ impl<W: Write> Sink for StdSink<W> {
         ensures bytes { Keeps None None }
         ensures flushes { OnOk result (IsFlushed None None) }
         ensures telling { is_some {T = List ℕ} None ≡ is_some {T = List ℕ} None }
+        ensures flushed_telling { is_some {T = List ℕ} None ≡ is_some {T = List ℕ} None }
         ensures later { self.old.faults ≤ self.new.faults }
         ensures cause { OnErr result (Rose self.old.faults self.new.faults) }
+        ensures steady { OnOk result (self.new.faults ≡ self.old.faults) }
         ensures passes { Keeps (W.contents self.old.inner) (W.contents self.new.inner) }
     {
         for _turn in 0..TRIES {

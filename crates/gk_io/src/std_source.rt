@@ -1,6 +1,6 @@
 //! A source over a reader of std. It tells nothing of the bytes.
 
-ghost use Rattle.std.specs.Prelude.{◌≡◌, ◌≤◌, ℕ, List, None, OnErr, is_some};
+ghost use Rattle.std.specs.Prelude.{◌≡◌, ◌≤◌, ℕ, List, None, OnOk, OnErr, is_some};
 ghost use Rattle.std.specs.Io.{ReadsAtMost};
 ghost use Rattle.std.specs.Io.KnownBytes.{ReadConsumes};
 ghost use Rattle.gk_io.specs.Faults.{Rose};
@@ -39,6 +39,7 @@ impl<R: Read> Source for StdSource<R> {
         ensures telling { is_some {T = List ℕ} None ≡ is_some {T = List ℕ} None }
         ensures later { self.old.faults ≤ self.new.faults }
         ensures cause { OnErr result (Rose self.old.faults self.new.faults) }
+        ensures steady { OnOk result (self.new.faults ≡ self.old.faults) }
 
         // Where the reader tells its bytes, just those that are given are lost to it.
         ensures passes { ReadConsumes (R.remaining self.old.inner) (R.remaining self.new.inner) result buf.new }

@@ -1,6 +1,6 @@
 //! A source read in pieces and handed on line by line.
 
-ghost use Rattle.std.specs.Prelude.{◌≡◌, ◌≢◌, ◌+◌, ◌<◌, ◌≤◌, [], ◌∷◌, ◌++◌, Ok, IfOk, OnErr, is_some, length};
+ghost use Rattle.std.specs.Prelude.{◌≡◌, ◌≢◌, ◌+◌, ◌<◌, ◌≤◌, [], ◌∷◌, ◌++◌, Ok, IfOk, OnOk, OnErr, is_some, length};
 
 use crate::find::find_lf;
 use crate::held_line::HeldLine;
@@ -70,6 +70,7 @@ impl LineReader {
         ensures telling { is_some (S.left source.new) ≡ is_some (S.left source.old) }
         ensures later { S.faults source.old ≤ S.faults source.new }
         ensures cause { OnErr result (Rose (S.faults source.old) (S.faults source.new)) }
+        ensures steady { OnOk result (S.faults source.new ≡ S.faults source.old) }
     {
         self.line.clear();
         loop {
@@ -93,6 +94,7 @@ impl LineReader {
         ensures telling { is_some (S.left source.new) ≡ is_some (S.left source.old) }
         ensures later { S.faults source.old ≤ S.faults source.new }
         ensures cause { OnErr result (Rose (S.faults source.old) (S.faults source.new)) }
+        ensures steady { OnOk result (S.faults source.new ≡ S.faults source.old) }
     {
         if self.next < self.end {
             return Ok(true);
@@ -111,6 +113,7 @@ impl LineReader {
         ensures telling { is_some (S.left source.new) ≡ is_some (S.left source.old) }
         ensures later { S.faults source.old ≤ S.faults source.new }
         ensures cause { OnErr result (Rose (S.faults source.old) (S.faults source.new)) }
+        ensures steady { OnOk result (S.faults source.new ≡ S.faults source.old) }
     {
         self.next = 0;
         self.end = 0;

@@ -37,8 +37,10 @@ pub fn reply_to<R: Responder, W: Sink>(
     ensures flushed { result ≢ Reply.Broken → IsFlushed (W.flushed output.old) (W.written output.old)
         → IsFlushed (W.flushed output.new) (W.written output.new) }
     ensures telling { is_some (W.written output.new) ≡ is_some (W.written output.old) }
+    ensures flushed_telling { is_some (W.flushed output.new) ≡ is_some (W.flushed output.old) }
     ensures later { W.faults output.old ≤ W.faults output.new }
     ensures cause { result ≡ Reply.Broken → Rose (W.faults output.old) (W.faults output.new) }
+    ensures steady { result ≢ Reply.Broken → W.faults output.new ≡ W.faults output.old }
 {
     text.clear();
     match responder.answer(alloc, line, text) {
@@ -53,8 +55,10 @@ fn write_line<W: Sink>(text: &mut LineText, output: &mut W) -> Reply
     ensures written { IsWritten (W.written output.old) (W.written output.new) (line_bytes text.old) result }
     ensures flushed { result ≡ Reply.Whole → IsFlushed (W.flushed output.new) (W.written output.new) }
     ensures telling { is_some (W.written output.new) ≡ is_some (W.written output.old) }
+    ensures flushed_telling { is_some (W.flushed output.new) ≡ is_some (W.flushed output.old) }
     ensures later { W.faults output.old ≤ W.faults output.new }
     ensures cause { result ≡ Reply.Broken → Rose (W.faults output.old) (W.faults output.new) }
+    ensures steady { result ≢ Reply.Broken → W.faults output.new ≡ W.faults output.old }
 {
     text.push(b'\n');
     match output.put(text.as_slice()) {

@@ -44,11 +44,14 @@ pub fn run_session<R: Responder, S: Source, W: Sink>(
     // only where they don't.
     ensures read_cause { result ≡ Ended.ReadFault → Rose (S.faults input.old) (S.faults input.new) }
     ensures write_cause { result ≡ Ended.WriteFault → Rose (W.faults output.old) (W.faults output.new) }
+    ensures read_steady { result ≢ Ended.ReadFault → S.faults input.new ≡ S.faults input.old }
+    ensures write_steady { result ≢ Ended.WriteFault → W.faults output.new ≡ W.faults output.old }
     ensures within { (bytes : List ℕ) → S.left input.old ≡ Some bytes → IsWithin bytes → result ≢ Ended.TooLong }
     ensures past { (bytes : List ℕ) → S.left input.old ≡ Some bytes → RunsPast bytes → result ≢ Ended.Fine }
 
     ensures input_telling { is_some (S.left input.new) ≡ is_some (S.left input.old) }
     ensures output_telling { is_some (W.written output.new) ≡ is_some (W.written output.old) }
+    ensures flushed_telling { is_some (W.flushed output.new) ≡ is_some (W.flushed output.old) }
     ensures input_later { S.faults input.old ≤ S.faults input.new }
     ensures output_later { W.faults output.old ≤ W.faults output.new }
 {
@@ -76,8 +79,11 @@ fn all_lines<R: Responder, S: Source, W: Sink>(
         → IsFlushed (W.flushed output.new) (W.written output.new) }
     ensures read_cause { result ≡ Ended.ReadFault → Rose (S.faults input.old) (S.faults input.new) }
     ensures write_cause { result ≡ Ended.WriteFault → Rose (W.faults output.old) (W.faults output.new) }
+    ensures read_steady { result ≢ Ended.ReadFault → S.faults input.new ≡ S.faults input.old }
+    ensures write_steady { result ≢ Ended.WriteFault → W.faults output.new ≡ W.faults output.old }
     ensures input_telling { is_some (S.left input.new) ≡ is_some (S.left input.old) }
     ensures output_telling { is_some (W.written output.new) ≡ is_some (W.written output.old) }
+    ensures flushed_telling { is_some (W.flushed output.new) ≡ is_some (W.flushed output.old) }
     ensures input_later { S.faults input.old ≤ S.faults input.new }
     ensures output_later { W.faults output.old ≤ W.faults output.new }
 {
@@ -108,8 +114,11 @@ fn turn<R: Responder, S: Source, W: Sink>(
         → IsFlushed (W.flushed output.new) (W.written output.new) }
     ensures read_cause { result ≡ Some Ended.ReadFault → Rose (S.faults input.old) (S.faults input.new) }
     ensures write_cause { result ≡ Some Ended.WriteFault → Rose (W.faults output.old) (W.faults output.new) }
+    ensures read_steady { result ≢ Some Ended.ReadFault → S.faults input.new ≡ S.faults input.old }
+    ensures write_steady { result ≢ Some Ended.WriteFault → W.faults output.new ≡ W.faults output.old }
     ensures input_telling { is_some (S.left input.new) ≡ is_some (S.left input.old) }
     ensures output_telling { is_some (W.written output.new) ≡ is_some (W.written output.old) }
+    ensures flushed_telling { is_some (W.flushed output.new) ≡ is_some (W.flushed output.old) }
     ensures input_later { S.faults input.old ≤ S.faults input.new }
     ensures output_later { W.faults output.old ≤ W.faults output.new }
 {

@@ -15,8 +15,10 @@ pub fn write_last<W: Sink>(output: &mut W, text: &[u8]) -> Result<(), Failed>
     ensures bytes { PutAppends (W.written output.old) (W.written output.new) result (with_lf text.now) }
     ensures flushed { OnOk result (IsFlushed (W.flushed output.new) (W.written output.new)) }
     ensures telling { is_some (W.written output.new) ≡ is_some (W.written output.old) }
+    ensures flushed_telling { is_some (W.flushed output.new) ≡ is_some (W.flushed output.old) }
     ensures later { W.faults output.old ≤ W.faults output.new }
     ensures cause { OnErr result (Rose (W.faults output.old) (W.faults output.new)) }
+    ensures steady { OnOk result (W.faults output.new ≡ W.faults output.old) }
 {
     let mut line = LineText::new();
     line.push_all(text);

@@ -1,7 +1,7 @@
 //! All that the program does.
 
 ghost use Rattle.std.specs.Prelude.{◌≡◌, ◌≢◌, ◌⊎◌, ◌≤◌, ◌↔◌, ℕ, List, Option, Some, IsSome, is_some};
-ghost use Rattle.gk_io.specs.Faults.{Rose};
+ghost use Rattle.gk_io.specs.Faults.{CanRise, Rose};
 ghost use Rattle.gk_io.specs.Told.{IsFlushed};
 ghost use Rattle.line_reader.specs.Limits.{IsWithin};
 ghost use Rattle.spctl_cli.specs.CommandLine.{IsSessionCommand};
@@ -40,11 +40,16 @@ pub fn run<S: Source, W: Sink>(
         → IsFlushed (W.flushed output.new) (W.written output.new) }
 
     // The cause of each end. A fault is that of its device, in this call. Want of memory is free; what
-    // comes exactly where something holds yields to it, and to a fault of the sink.
+    // comes exactly where something holds yields to it, and to a fault of the sink; a fault that the count
+    // shows yields to a fault of the sink alone.
     ensures usage_cause { result ≢ Status.WriteFault
         → ((result ≡ Status.Usage) ↔ (¬ IsSessionCommand words.now)) }
     ensures read_cause { result ≡ Status.ReadFault → Rose (S.faults input.old) (S.faults input.new) }
     ensures write_cause { result ≡ Status.WriteFault → Rose (W.faults output.old) (W.faults output.new) }
+    ensures read_exact { CanRise (S.faults input.old) → result ≢ Status.WriteFault
+        → ((result ≡ Status.ReadFault) ↔ Rose (S.faults input.old) (S.faults input.new)) }
+    ensures write_exact { CanRise (W.faults output.old)
+        → ((result ≡ Status.WriteFault) ↔ Rose (W.faults output.old) (W.faults output.new)) }
     ensures too_long_cause { IsSome (S.left input.old)
         → result ≢ Status.WriteFault → result ≢ Status.OutOfMemory
         → ((result ≡ Status.SessionTooLong) ↔ GavePast (S.left input.old) (S.left input.new)) }
@@ -59,6 +64,7 @@ pub fn run<S: Source, W: Sink>(
     // Devices tell afterwards what they told before, and their counts don't fall.
     ensures input_telling { is_some (S.left input.new) ≡ is_some (S.left input.old) }
     ensures output_telling { is_some (W.written output.new) ≡ is_some (W.written output.old) }
+    ensures flushed_telling { is_some (W.flushed output.new) ≡ is_some (W.flushed output.old) }
     ensures input_later { S.faults input.old ≤ S.faults input.new }
     ensures output_later { W.faults output.old ≤ W.faults output.new }
 {
@@ -79,8 +85,12 @@ fn session<S: Source, W: Sink>(alloc: Global, input: &mut S, output: &mut W) -> 
         → IsFlushed (W.flushed output.new) (W.written output.new) }
     ensures read_cause { result ≡ Status.ReadFault → Rose (S.faults input.old) (S.faults input.new) }
     ensures write_cause { result ≡ Status.WriteFault → Rose (W.faults output.old) (W.faults output.new) }
+    ensures read_steady { result ≢ Status.ReadFault → result ≢ Status.WriteFault
+        → S.faults input.new ≡ S.faults input.old }
+    ensures write_steady { result ≢ Status.WriteFault → W.faults output.new ≡ W.faults output.old }
     ensures input_telling { is_some (S.left input.new) ≡ is_some (S.left input.old) }
     ensures output_telling { is_some (W.written output.new) ≡ is_some (W.written output.old) }
+    ensures flushed_telling { is_some (W.flushed output.new) ≡ is_some (W.flushed output.old) }
     ensures input_later { S.faults input.old ≤ S.faults input.new }
     ensures output_later { W.faults output.old ≤ W.faults output.new }
 {
@@ -106,7 +116,9 @@ fn usage<W: Sink>(output: &mut W) -> Status
         → UsageEnds left left (W.written output.old) (W.written output.new) result }
     ensures flushed { result ≢ Status.WriteFault → IsFlushed (W.flushed output.new) (W.written output.new) }
     ensures telling { is_some (W.written output.new) ≡ is_some (W.written output.old) }
+    ensures flushed_telling { is_some (W.flushed output.new) ≡ is_some (W.flushed output.old) }
     ensures write_cause { result ≡ Status.WriteFault → Rose (W.faults output.old) (W.faults output.new) }
+    ensures write_steady { result ≢ Status.WriteFault → W.faults output.new ≡ W.faults output.old }
     ensures output_later { W.faults output.old ≤ W.faults output.new }
 {
     match write_last(

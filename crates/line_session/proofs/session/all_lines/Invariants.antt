@@ -1,4 +1,4 @@
-use Rattle.std.proofs.Common.{◌≡◌, is_some, ◌-◌, ◌≤◌}
+use Rattle.std.proofs.Common.{◌≡◌, is_some, ◌-◌}
 use Rattle.gk_io.specs.Told.{IsFlushed}
 use Rattle.line_reader.specs.Reading.{stream}
 use Rattle.line_session.specs.Turns.{IsGoing}
@@ -10,8 +10,9 @@ invariant-loop-ended g l = record {
   flushed : IsFlushed (g.W.Sink.flushed l.fn.output) (g.W.Sink.written l.fn.output) → IsFlushed (g.W.Sink.flushed l.output) (g.W.Sink.written l.output);
   input_telling : is_some (g.S.Source.left l.input) ≡ is_some (g.S.Source.left l.fn.input);
   output_telling : is_some (g.W.Sink.written l.output) ≡ is_some (g.W.Sink.written l.fn.output);
-  input_later : g.S.Source.faults l.fn.input ≤ g.S.Source.faults l.input;
-  output_later : g.W.Sink.faults l.fn.output ≤ g.W.Sink.faults l.output;
+  flushed_telling : is_some (g.W.Sink.flushed l.output) ≡ is_some (g.W.Sink.flushed l.fn.output);
+  input_steady : g.S.Source.faults l.input ≡ g.S.Source.faults l.fn.input;
+  output_steady : g.W.Sink.faults l.output ≡ g.W.Sink.faults l.fn.output;
 }
 
 abbrev pub decreases-loop-ended : goal.decreases-loop-ended

@@ -22,5 +22,5 @@ loop-self-preserved g c =
           (grind (arith, nat_tests, c.if-self-eq-LINE_LIMIT.false, c.ready.new.self.lines_within))
           (subst (IsRun c.ready.new.self c.take_run.new.self) c.if-take_run.false c.take_run.ensures);
       telling = c.ready.ensures.telling ∙ c.loop-self.invariant.telling;
-      later = grind (arith, c.loop-self.invariant.later, c.ready.ensures.later);
+      steady = c.in_ok-ready.ensures.steady ∙ c.loop-self.invariant.steady;
     }

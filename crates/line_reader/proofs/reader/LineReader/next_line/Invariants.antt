@@ -1,4 +1,4 @@
-use Rattle.std.proofs.Common.{◌≡◌, is_some, ◌-◌, ◌≤◌}
+use Rattle.std.proofs.Common.{◌≡◌, is_some, ◌-◌}
 use Rattle.line_reader.specs.Reading.{held, stream, IsPart}
 use Rattle.line_reader.proofs.reader.LineReader.next_line.Given as goal
 
@@ -6,7 +6,7 @@ abbrev pub invariant-loop-self : goal.invariant-loop-self
 invariant-loop-self g l = record {
   part : IsPart (stream l.fn.self (g.S.Source.left l.fn.source)) (stream l.self (g.S.Source.left l.source)) (held l.self);
   telling : is_some (g.S.Source.left l.source) ≡ is_some (g.S.Source.left l.fn.source);
-  later : g.S.Source.faults l.fn.source ≤ g.S.Source.faults l.source;
+  steady : g.S.Source.faults l.source ≡ g.S.Source.faults l.fn.source;
 }
 
 abbrev pub decreases-loop-self : goal.decreases-loop-self
