@@ -1,14 +1,6 @@
-pub mod Oids
-pub mod Turns
-pub mod Fields
-pub mod Table
-pub mod Leaves
-pub mod Trees
-pub mod Lengths
-pub mod Blobs
-pub mod Plain
-pub mod Written
 pub mod SetParts
 pub mod SetLaws
 pub mod SetWritten
 pub mod SetTests
+pub mod SetSpelled
+pub mod RoundTrips

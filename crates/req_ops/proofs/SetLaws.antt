@@ -11,15 +11,15 @@ use Rattle.cs_blob.specs.SuperBlobs.{IsSuperBlob, IsPartOf, count_of, kind_at, p
 use Rattle.cs_blob.specs.declared.fault.BlobFault.{BlobFault}
 use Rattle.cs_blob.proofs.BlobLemmas.{same_blob}
 use Rattle.cs_blob.proofs.SuperLemmas.{no_super}
-use Rattle.req_ops.specs.declared.fault.OpsFault.{OpsFault}
-use Rattle.req_ops.specs.declared.fault.OpsFault.TheVariants as fault
+use Rattle.req_blob.specs.declared.fault.OpsFault.{OpsFault}
+use Rattle.req_blob.specs.declared.fault.OpsFault.TheVariants as fault
 use Rattle.req_ops.specs.declared.fault.SetFault.{SetFault}
 use Rattle.req_ops.specs.declared.fault.SetFault.TheVariants.{Blob, TooLong, Trailing, BadSetKind, Part, OutOfMemory}
-use Rattle.req_ops.specs.Spelling.{IsSpelling}
-use Rattle.req_ops.specs.Decoding.{decoded}
+use Rattle.req_blob.specs.Spelling.{IsSpelling}
+use Rattle.req_blob.specs.Decoding.{decoded}
 use Rattle.req_ops.specs.Sets.{set_magic, IsSetSpelling, SetFails, StopsAt, HasRead, PartFails, part_fault}
-use Rattle.req_ops.proofs.Fields.{ok_is, IsBytes-drop, IsBytes-take}
-use Rattle.req_ops.proofs.Blobs.{decoded_spells, spells_decoded}
+use Rattle.req_blob.proofs.Fields.{ok_is, IsBytes-drop, IsBytes-take}
+use Rattle.req_blob.proofs.Blobs.{decoded_spells, spells_decoded}
 use Rattle.req_ops.proofs.SetParts.{Tells, same_entry}
 
 part_bytes : (whole : List ℕ) (k : ℕ) → IsBytes whole → IsBytes (part_at whole k)

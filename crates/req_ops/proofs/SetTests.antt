@@ -5,7 +5,7 @@ use Rattle.std.proofs.lemmas.Bool.{cases_lt}
 use Rattle.std.proofs.lemmas.Bool.Decides.{nat_tests}
 use Rattle.req_tree.specs.Tree.{Tree}
 use Rattle.req_tree.specs.TreeSet.{TreeSet, part_of}
-use Rattle.req_ops.specs.Encoding.{IsEncodable}
+use Rattle.req_blob.specs.Encoding.{IsEncodable}
 use Rattle.req_ops.specs.SetEncoding.{IsEncodableSet}
 
 -- both ways
@@ -21,7 +21,7 @@ none_when o is = subst (λ (p : Option Tree). Tests true (IfSome p IsEncodable))
 not_at : (k i : ℕ) → 6 ≤ k → i < 6 → (k == i) ≡ false
 not_at k i h low = grind (arith, nat_tests)
 
-none_above : (k : ℕ) (s : TreeSet) → 6 ≤ k → part_of k s ≡ None
+pub none_above : (k : ℕ) (s : TreeSet) → 6 ≤ k → part_of k s ≡ None
 none_above k s h = rw (not_at k 1 h (omega arith), not_at k 2 h (omega arith), not_at k 3 h (omega arith), not_at k 4 h (omega arith), not_at k 5 h (omega arith)) refl
 
 pub below_more : (s : TreeSet) (i : ℕ) → ((k : ℕ) → k < i → IfSome (part_of k s) IsEncodable) → IfSome (part_of i s) IsEncodable → (k : ℕ) → k < i + 1 → IfSome (part_of k s) IsEncodable

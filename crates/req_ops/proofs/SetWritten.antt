@@ -1,7 +1,8 @@
 -- A set that is written part by part.
 use Rattle.std.proofs.Common.{◌≡◌, ◌≢◌, ℕ, zero, suc, ◌+◌, ◌*◌, ◌^◌, ◌<◌, ◌≤◌, Bool, true, false, ◌==◌, ◌||◌, Option, Some, None, Result, Ok, Err, List, [], ◌∷◌, ◌++◌, length, refl, sym, ap, subst, ◌∙◌, arith, inl, inr, ◌⊎◌, add-one, length-append}
-use Rattle.std.specs.Prelude.{IfSome, IfOk, IfErr, MatchResult}
+use Rattle.std.specs.Prelude.{IfSome, MatchResult}
 use Rattle.std.specs.List.{list_any}
+use Rattle.std.proofs.lemmas.Bool.{cases_lt}
 use Rattle.std.proofs.lemmas.Bool.Decides.{nat_tests}
 use Rattle.std.proofs.lemmas.List.{append-nil}
 use Rattle.req_tree.specs.Tree.{Tree}
@@ -9,14 +10,14 @@ use Rattle.req_tree.specs.TreeSet.{TreeSet, part_of}
 use Rattle.cs_blob.specs.Blobs.{IsSized}
 use Rattle.cs_blob.specs.Writing.{Draft, has_kind, body_bytes, total_of, add_fault, written}
 use Rattle.cs_blob.proofs.WriterLemmas.{body-append, total-more, fits_when, length-written}
-use Rattle.req_ops.specs.declared.fault.OpsFault.{OpsFault}
-use Rattle.req_ops.specs.declared.fault.OpsFault.TheVariants as fault
-use Rattle.req_ops.specs.Spelling.{IsPlain, plain, plain_blob}
-use Rattle.req_ops.specs.Encoding.{IsEncodable, encoded}
+use Rattle.req_blob.specs.declared.fault.OpsFault.{OpsFault}
+use Rattle.req_blob.specs.declared.fault.OpsFault.TheVariants as fault
+use Rattle.req_blob.specs.Spelling.{IsSpelling, IsPlain, plain, plain_blob}
+use Rattle.req_blob.specs.Encoding.{IsEncodable, encoded}
 use Rattle.req_ops.specs.Sets.{set_magic}
 use Rattle.req_ops.specs.SetEncoding.{part_under, parts_below, plain_set, IsEncodableSet, IsDraftTo, HasLongPart}
-use Rattle.req_ops.proofs.Blobs.{requirement_blob}
-use Rattle.req_ops.proofs.Written.{fault_written}
+use Rattle.req_blob.proofs.Blobs.{requirement_blob}
+use Rattle.req_blob.proofs.Written.{fault_written}
 
 any-append : {A : Type 0} (p : A → Bool) (xs ys : List A) → list_any p xs ≡ false → list_any p ys ≡ false → list_any p (xs ++ ys) ≡ false
 any-append p [] ys h g = g
@@ -46,9 +47,20 @@ below_count zero s = omega arith
 below_count (suc kind) s = omega (arith, length-append (parts_below kind s) (part_under kind (part_of kind s)), below_count kind s, under_count kind (part_of kind s))
 
 pub draft_none : (s : TreeSet) (draft : Draft) → draft ≡ record { magic = set_magic; parts = [] } → IsDraftTo s 0 draft
-draft_none s draft is = subst (IsDraftTo s 0) (sym is) (record { magic = refl; parts = refl; small = omega arith })
+draft_none s draft is = subst (IsDraftTo s 0) (sym is) (record { magic = refl; parts = refl; small = omega arith; spelled = λ k lt. absurd (omega (arith, lt)) })
 
 -- ---- one type
+
+-- what holds of the types below a number, and of that one
+types_more : (s : TreeSet) (kind : ℕ) (P : Tree → Type 0) → ((k : ℕ) → k < kind → IfSome (part_of k s) P) → IfSome (part_of kind s) P → (k : ℕ) → k < kind + 1 → IfSome (part_of k s) P
+types_more s kind P below here k lt =
+    elim (cases_lt k kind) [
+      | inl less ↦ below k less
+      | inr le ↦ let same : kind ≡ k = omega (arith, lt, le) in subst (λ (j : ℕ). IfSome (part_of j s) P) same here
+    ]
+
+abbrev IsSpelledPlain : Tree → Type 0
+IsSpelledPlain tree = IsSpelling tree (plain_blob tree)
 
 below_none : (kind : ℕ) (s : TreeSet) → part_of kind s ≡ None → parts_below (kind + 1) s ≡ parts_below kind s
 below_none kind s none = rw add-one (ap (λ (o : Option Tree). parts_below kind s ++ part_under kind o) none ∙ append-nil (parts_below kind s))
@@ -59,7 +71,12 @@ below_some kind s tree some = rw add-one (ap (λ (o : Option Tree). parts_below 
 pub draft_same : (s : TreeSet) (kind : ℕ) (draft : Draft) → IsDraftTo s kind draft → part_of kind s ≡ None → IsDraftTo s (kind + 1) draft
 draft_same s kind draft is none =
     let small : total_of draft.parts ≤ 12 + kind * 1048584 = is.small in
-    record { magic = is.magic; parts = is.parts ∙ sym (below_none kind s none); small = omega (arith, small) }
+    record {
+      magic = is.magic;
+      parts = is.parts ∙ sym (below_none kind s none);
+      small = omega (arith, small);
+      spelled = types_more s kind IsSpelledPlain is.spelled (subst (λ (o : Option Tree). IfSome o IsSpelledPlain) (sym none) tt);
+    }
 
 pub draft_more : (s : TreeSet) (kind : ℕ) (old new : Draft) (tree : Tree) (part : List ℕ) → IsDraftTo s kind old → part_of kind s ≡ Some tree → IsPlain tree part
     → new ≡ record old { parts = old.parts ++ (kind, part) ∷ [] } → IsDraftTo s (kind + 1) new
@@ -73,6 +90,7 @@ draft_more s kind old new tree part is some written more = subst (IsDraftTo s (k
           magic = is.magic;
           parts = ap (λ (ps : List (ℕ × List ℕ)). ps ++ (kind, part) ∷ []) is.parts ∙ ap (λ (b : List ℕ). parts_below kind s ++ (kind, b) ∷ []) written.plain_is ∙ sym (below_some kind s tree some);
           small = omega (arith, total-more old.parts kind part, small, short);
+          spelled = types_more s kind IsSpelledPlain is.spelled (subst (λ (o : Option Tree). IfSome o IsSpelledPlain) (sym some) (subst (λ (b : List ℕ). IsSpelling tree b) written.plain_is written.spelled));
         }
 
 pub part_sized : (tree : Tree) (part : List ℕ) → IsPlain tree part → IsSized part
@@ -138,19 +156,6 @@ pub long_fault : (s : TreeSet) (e : OpsFault) → ((e ≡ fault.OutOfMemory) ⊎
     → (e ≡ fault.OutOfMemory) ⊎ ((e ≡ fault.TooLong) × (1048576 < length (plain_set s)))
 long_fault s e (inl is) = inl is
 long_fault s e (inr h) = inr (h.0, set_long s h.1.0 h.1.1 h.1.2)
-
--- what the last step tells
-abbrev pub Finished : Draft → Result (List ℕ) OpsFault → Type 0
-Finished draft r = MatchResult r (λ b. (b ≡ written draft) × (length b ≤ 1048576)) (λ e. (e ≡ fault.OutOfMemory) ⊎ ((e ≡ fault.TooLong) × (1048576 < length (written draft))))
-
-pub finished_plain : (s : TreeSet) (draft : Draft) (r : Result (List ℕ) OpsFault) → IsDraftTo s 6 draft → Finished draft r → IfOk r (λ b. b ≡ plain_set s)
-finished_plain s draft (Ok b) is h = h.0 ∙ whole_written s draft is
-finished_plain s draft (Err e) is h = tt
-
-pub finished_fault : (s : TreeSet) (draft : Draft) (r : Result (List ℕ) OpsFault) → IsDraftTo s 6 draft → Finished draft r → IfErr r (λ e. (e ≡ fault.OutOfMemory) ⊎ ((e ≡ fault.TooLong) × (1048576 < length (plain_set s))))
-finished_fault s draft (Ok b) is h = tt
-finished_fault s draft (Err e) is (inl h) = inl h
-finished_fault s draft (Err e) is (inr h) = inr (h.0, subst (λ (b : List ℕ). 1048576 < length b) (whole_written s draft is) h.1)
 
 pub added_more : (r : Result (Unit {0}) OpsFault) (s : TreeSet) (kind : ℕ) (old new : Draft) (tree : Tree) (part : List ℕ) → IsDraftTo s kind old → Some tree ≡ part_of kind s → IsPlain tree part
     → MatchResult r (λ _. new ≡ record old { parts = old.parts ++ (kind, part) ∷ [] }) (λ e. e ≡ fault.OutOfMemory)

@@ -1,8 +1,8 @@
-pub mod Words
-pub mod Opcodes
-pub mod Spelling
-pub mod Reading
-pub mod Decoding
-pub mod Encoding
 pub mod Sets
 pub mod SetEncoding
+pub use Rattle.req_blob.specs.Words
+pub use Rattle.req_blob.specs.Opcodes
+pub use Rattle.req_blob.specs.Spelling
+pub use Rattle.req_blob.specs.Reading
+pub use Rattle.req_blob.specs.Decoding
+pub use Rattle.req_blob.specs.Encoding

@@ -5,12 +5,12 @@ use Rattle.std.specs.Option.{MatchOption}
 use Rattle.req_tree.specs.Tree.{Tree}
 use Rattle.req_tree.specs.TreeSet.{TreeSet, IsSetKind, part_of}
 use Rattle.cs_blob.specs.SuperBlobs.{IsSuperBlob, SuperFails, IsPartOf, count_of, kind_at, part_at}
-use Rattle.req_ops.specs.declared.fault.OpsFault.{OpsFault}
-use Rattle.req_ops.specs.declared.fault.OpsFault.TheVariants as memory
+use Rattle.req_blob.specs.declared.fault.OpsFault.{OpsFault}
+use Rattle.req_blob.specs.declared.fault.OpsFault.TheVariants as memory
 use Rattle.req_ops.specs.declared.fault.SetFault.{SetFault}
 use Rattle.req_ops.specs.declared.fault.SetFault.TheVariants.{Blob, TooLong, Trailing, BadSetKind, Part, OutOfMemory}
-use Rattle.req_ops.specs.Spelling.{IsSpelling}
-use Rattle.req_ops.specs.Decoding.{decoded}
+use Rattle.req_blob.specs.Spelling.{IsSpelling}
+use Rattle.req_blob.specs.Decoding.{decoded}
 
 abbrev pub set_magic : ℕ
 set_magic = 0xfade0c01

@@ -1,95 +1,123 @@
-//! Requirement blobs read whole.
+//! Sets of requirements read whole.
 
-ghost use Rattle.std.specs.Prelude.{◌≡◌, ◌≤◌, length, IfOk, Ok};
-ghost use Rattle.req_tree.specs.Tree.{Tree, tree_of};
-ghost use Rattle.req_ops.specs.Spelling.{IsSpelling};
-ghost use Rattle.req_ops.specs.Reading.{Gives};
-ghost use Rattle.req_ops.specs.Decoding as spec;
+ghost use Rattle.std.specs.Prelude.{◌≡◌, ◌+◌, ◌<◌, ◌≤◌, ◌++◌, [], length, IfOk, IfErr, Ok, MatchResult};
+ghost use Rattle.req_tree.specs.Tree.{tree_of};
+ghost use Rattle.req_tree.specs.TreeSet.{TreeSet, IsSetKind, no_parts};
+ghost use Rattle.cs_blob.specs.SuperBlobs.{IsSuperBlob, count_of};
+ghost use Rattle.cs_blob.specs.SuperBlobs as blobs;
+ghost use Rattle.req_blob.specs.Decoding.{decoded};
+ghost use Rattle.req_ops.specs.Sets as spec;
+ghost use Rattle.req_ops.specs.Sets.{IsSetSpelling, SetFails, PartFails, StopsAt, HasRead, set_magic};
 
-use crate::fault::OpsFault;
-use crate::field::{place, word_at};
-use crate::tree::req_at;
-use cs_blob::Blob;
-use req_tree::Req;
+use crate::fault::SetFault;
+use cs_blob::SuperBlob;
+use req_blob::{OpsFault, decode};
+use req_tree::{Req, ReqSet};
 use std::alloc::Global;
 
-/// The magic of a requirement blob.
-pub(crate) const MAGIC: u32 = 0xfade_0c00;
+/// The magic of a set of requirements.
+pub(crate) const SET_MAGIC: u32 = 0xfade_0c01;
 
-/// The most bytes that a blob may have.
+/// The most bytes that a set may have.
 pub(crate) const MOST_BYTES: usize = 1_048_576;
 
-/// How deep an expression may be.
-const MOST_DEPTH: u32 = 256;
-
-/// The requirement that the bytes spell, all of the bytes. The checks go from the front: the blob's
-/// header and size, its kind and its expression, and last that nothing is left.
-pub fn decode(alloc: Global, bytes: &[u8]) -> Result<Req, OpsFault>
-    // What is read is spelled so.
-    ensures found { IfOk result (λ req. IsSpelling (tree_of req) bytes.now) }
-    // What is spelled so is read, unless memory is wanting.
-    ensures only { (tree : Tree) → IsSpelling tree bytes.now → Gives tree_of result (Ok tree) }
-    // Which fault it is, and where.
-    ensures exact { Gives tree_of result (spec.decoded bytes.now) }
+/// The set that the bytes spell, all of the bytes. The checks go from the front: the super-blob with its
+/// index, its size, that nothing is left, and then each part in the order of the index.
+pub fn decode_set(alloc: Global, bytes: &[u8]) -> Result<ReqSet, SetFault>
+    ensures found { IfOk result (λ set. IsSetSpelling set bytes.now) }
+    ensures only { (set : TreeSet) → IsSetSpelling set bytes.now → MatchResult result (λ read. read ≡ set) (λ fault. fault ≡ SetFault.OutOfMemory) }
+    ensures exact { IfErr result (λ fault. SetFails bytes.now fault) }
 {
-    decode_first(alloc, bytes)
-}
-
-#[tactic(auto, unfolding(crate::specs::Decoding::decoded))]
-fn decode_first(alloc: Global, bytes: &[u8]) -> Result<Req, OpsFault>
-    ensures { Gives tree_of result (spec.decoded bytes.now) }
-{
-    let (whole, rest) = blob_at(bytes)?;
-    decode_whole(alloc, whole, rest)
-}
-
-#[tactic(auto, unfolding(crate::specs::Decoding::blob_at))]
-fn blob_at(bytes: &[u8]) -> Result<(&[u8], &[u8]), OpsFault>
-    ensures reads { Gives (λ x. (x.0.now, x.1.now)) result (spec.blob_at bytes.now) }
-    ensures long { IfOk result (λ x. 8 ≤ length x.0.now) }
-{
-    match Blob::read(bytes, MAGIC) {
-        Ok(blob) => Ok((blob.whole(), blob.rest())),
-        Err(fault) => Err(OpsFault::Blob(fault)),
+    match SuperBlob::read(bytes, SET_MAGIC) {
+        Ok(blob) => decode_whole(alloc, bytes, &blob),
+        Err(fault) => Err(SetFault::Blob(fault)),
     }
 }
 
-#[tactic(auto, unfolding(crate::specs::Decoding::whole_of))]
-fn decode_whole(alloc: Global, whole: &[u8], rest: &[u8]) -> Result<Req, OpsFault>
-    requires { 8 ≤ length whole.now }
-    ensures { Gives tree_of result (spec.whole_of whole.now rest.now) }
+fn decode_whole(alloc: Global, bytes: &[u8], blob: &SuperBlob<'_>) -> Result<ReqSet, SetFault>
+    requires whole { IsSuperBlob set_magic blob.now.whole }
+    requires front { bytes.now ≡ blob.now.whole ++ blob.now.rest }
+    ensures { MatchResult result (λ set. (blob.now.rest ≡ []) × (length blob.now.whole ≤ 1048576) × HasRead blob.now.whole (count_of blob.now.whole) set) (λ fault. SetFails bytes.now fault) }
 {
-    if whole.len() > MOST_BYTES {
-        return Err(OpsFault::TooLong);
+    let size = bytes.len() - blob.rest().len();
+    if size > MOST_BYTES {
+        return Err(SetFault::TooLong);
     }
-    let size = whole.len() as u32;
-    let (req, left) = body_at(alloc, size, whole.split_at(8).1)?;
-    ended(size, req, left, rest)
+    if !blob.rest().is_empty() {
+        return Err(SetFault::Trailing { at: size as u32 });
+    }
+    decode_parts(alloc, blob)
 }
 
-#[tactic(auto, unfolding(crate::specs::Decoding::body_at))]
-fn body_at(alloc: Global, size: u32, body: &[u8]) -> Result<(Req, &[u8]), OpsFault>
-    ensures { Gives (λ x. (tree_of x.0, x.1.now)) result (spec.body_at size body.now) }
+fn decode_parts(alloc: Global, blob: &SuperBlob<'_>) -> Result<ReqSet, SetFault>
+    requires { IsSuperBlob set_magic blob.now.whole }
+    ensures { MatchResult result (λ set. HasRead blob.now.whole (count_of blob.now.whole) set) (λ fault. StopsAt blob.now.whole fault) }
 {
-    let (kind, rest) = word_at(size, body)?;
-    if kind != 1 {
-        return Err(OpsFault::BadKind);
-    }
-    req_at(alloc, size, MOST_DEPTH, rest)
+    let mut set = ReqSet::new();
+    let added = add_parts(alloc, blob, &mut set);
+    added.and(Ok(set))
 }
 
-/// The requirement, where no bytes are left behind its expression nor behind its blob.
-#[tactic(auto, unfolding(crate::specs::Decoding::ended))]
-fn ended(size: u32, req: Req, left: &[u8], rest: &[u8]) -> Result<Req, OpsFault>
-    ensures { Gives tree_of result (spec.ended size (tree_of req, left.now) rest.now) }
+/// Adds the parts to a set that has none.
+fn add_parts(alloc: Global, blob: &SuperBlob<'_>, set: &mut ReqSet) -> Result<(), SetFault>
+    requires whole { IsSuperBlob set_magic blob.now.whole }
+    requires empty { set.old ≡ no_parts }
+    ensures { MatchResult result (λ _. HasRead blob.now.whole (count_of blob.now.whole) set.new) (λ fault. StopsAt blob.now.whole fault) }
 {
-    if !left.is_empty() {
-        return Err(OpsFault::Trailing {
-            at: place(size, left),
-        });
+    for index in 0..blob.count() {
+        match add_part(alloc, blob, index, set) {
+            Ok(()) => {}
+            Err(fault) => return Err(fault),
+        }
     }
-    if !rest.is_empty() {
-        return Err(OpsFault::Trailing { at: size });
+    Ok(())
+}
+
+fn add_part(
+    alloc: Global,
+    blob: &SuperBlob<'_>,
+    index: u32,
+    set: &mut ReqSet,
+) -> Result<(), SetFault>
+    requires whole { IsSuperBlob set_magic blob.now.whole }
+    requires among { index < count_of blob.now.whole }
+    requires before { HasRead blob.now.whole index set.old }
+    ensures { MatchResult result (λ _. HasRead blob.now.whole (index + 1) set.new) (λ fault. PartFails blob.now.whole index fault) }
+{
+    match part_at(alloc, blob, index) {
+        Ok((kind, req)) => {
+            set.put(kind, req);
+            Ok(())
+        }
+        Err(fault) => Err(fault),
     }
-    Ok(req)
+}
+
+/// The type of an entry, and the requirement that is its part.
+fn part_at(alloc: Global, blob: &SuperBlob<'_>, index: u32) -> Result<(u32, Req), SetFault>
+    requires whole { IsSuperBlob set_magic blob.now.whole }
+    requires among { index < count_of blob.now.whole }
+    ensures { MatchResult result (λ x. (x.0 ≡ blobs.kind_at blob.now.whole index) × IsSetKind x.0 × (decoded (blobs.part_at blob.now.whole index) ≡ Ok (tree_of x.1))) (λ fault. PartFails blob.now.whole index fault) }
+{
+    let kind = blob.kind_at(index);
+    if kind < 1 || 5 < kind {
+        return Err(SetFault::BadSetKind { index });
+    }
+    match blob.part(kind) {
+        Some(part) => match decode(alloc, part) {
+            Ok(req) => Ok((kind, req)),
+            Err(fault) => Err(part_fault(index, fault)),
+        },
+        None => unreachable!(),
+    }
+}
+
+/// What a part that isn't read makes of the whole.
+fn part_fault(index: u32, fault: OpsFault) -> SetFault
+    ensures { result ≡ spec.part_fault index fault }
+{
+    match fault {
+        OpsFault::OutOfMemory => SetFault::OutOfMemory,
+        fault => SetFault::Part { index, fault },
+    }
 }

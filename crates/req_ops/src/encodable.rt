@@ -1,24 +1,12 @@
-//! Which requirements can be written.
+//! Which sets of requirements can be written.
 
-ghost use Rattle.std.specs.Prelude.{◌≡◌, ◌↔◌, IfSome, IsTrue};
-ghost use Rattle.req_tree.specs.Tree.{tree_of};
-ghost use Rattle.req_ops.specs.Spelling.{IsSkipFalse, IsSkipNext};
+ghost use Rattle.std.specs.Prelude.{◌↔◌, IfSome, IsTrue};
 ghost use Rattle.req_tree.specs.TreeSet.{part_of};
-ghost use Rattle.req_ops.specs.Encoding.{CanSpell, IsEncodable};
+ghost use Rattle.req_blob.specs.Encoding.{IsEncodable};
 ghost use Rattle.req_ops.specs.SetEncoding.{IsEncodableSet};
 
-use crate::field::is_reserved;
-use req_tree::{Req, ReqSet, depth};
-
-/// Whether a requirement can be written: it is at most 256 deep, no key of a certificate's field begins
-/// as that of another opcode, and what it skips is an unknown opcode with the flag that says so.
-pub fn is_encodable(req: &Req) -> bool
-    ensures { IsTrue result ↔ IsEncodable (tree_of req.now) }
-{
-    let shallow = depth(req) <= 256;
-    let spellable = can_spell(req);
-    shallow && spellable
-}
+use req_blob::is_encodable;
+use req_tree::ReqSet;
 
 /// Whether each requirement of a set can be written.
 pub fn is_encodable_set(set: &ReqSet) -> bool
@@ -39,38 +27,4 @@ fn is_encodable_part(set: &ReqSet, kind: u32) -> bool
         None => true,
         Some(req) => is_encodable(req),
     }
-}
-
-fn can_spell(req: &Req) -> bool
-    ensures { IsTrue result ↔ CanSpell (tree_of req.now) }
-{
-    match req {
-        Req::Both { left, right } => can_spell(left) && can_spell(right),
-        Req::Either { left, right } => can_spell(left) && can_spell(right),
-        Req::Negate { inner } => can_spell(inner),
-        Req::CertField {
-            slot: _,
-            key,
-            test: _,
-        } => !is_reserved(key.as_slice()),
-        Req::SkipFalse { op, skipped: _ } => is_skip_false(*op),
-        Req::SkipNext {
-            op,
-            skipped: _,
-            inner,
-        } => is_skip_next(*op) && can_spell(inner),
-        _ => true,
-    }
-}
-
-fn is_skip_false(op: u32) -> bool
-    ensures { IsTrue result ↔ IsSkipFalse op }
-{
-    24 <= op % 0x100_0000 && 0x8000_0000 <= op
-}
-
-fn is_skip_next(op: u32) -> bool
-    ensures { IsTrue result ↔ IsSkipNext op }
-{
-    24 <= op % 0x100_0000 && 0x4000_0000 <= op && op < 0x8000_0000
 }

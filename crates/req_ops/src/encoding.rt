@@ -1,247 +1,97 @@
-//! Requirements written as their plain bytes.
+//! Sets of requirements written as their plain bytes.
 
-ghost use Rattle.std.specs.Prelude.{◌≡◌, ◌+◌, ◌<◌, ◌≤◌, ◌↔◌, ◌++◌, length, IfOk, OnOk, IsErrOf};
-ghost use Rattle.req_tree.specs.Tree.{tree_of};
-ghost use Rattle.cs_blob.specs.Numbers.{word};
-ghost use Rattle.req_ops.specs.Words.{signed_word, zeros, datum, unpadded, match_text};
-ghost use Rattle.req_tree.specs.Oid.{IsOidBytes};
-ghost use Rattle.req_ops.specs.Spelling.{IsPlain, IsSlot, IsHash, plain, plain_blob};
-ghost use Rattle.req_ops.specs.Encoding.{IsEncodable, HasFields, encoded};
-ghost use Rattle.req_ops.specs.Reading.{Gives};
+ghost use Rattle.std.specs.Prelude.{◌≡◌, ◌+◌, ◌<◌, ◌≤◌, ◌⊎◌, ◌++◌, ◌∷◌, [], ℕ, None, length, IfOk, IfErr, MatchResult};
+ghost use Rattle.cs_blob.specs.Blobs.{IsSized};
+ghost use Rattle.cs_blob.specs.SuperBlobs.{IsSuperBlob};
+ghost use Rattle.cs_blob.specs.Writing.{Holds, add_fault, written};
+ghost use Rattle.req_ops.specs.Sets.{set_magic};
+ghost use Rattle.req_ops.specs.SetEncoding.{IsEncodableSet, IsPlainSet, IsDraftTo, HasLongPart, plain_set};
 
-use crate::decoding::{MAGIC, MOST_BYTES};
-use crate::fault::OpsFault;
-use crate::field::padding;
-use crate::size::plain_size;
-use req_tree::{Bytes, Hash20, Match, Oid, Req};
-use std::alloc::{AllocError, Global};
+use crate::decoding::{MOST_BYTES, SET_MAGIC};
+use cs_blob::SuperWriter;
+use req_blob::{OpsFault, encode};
+use req_tree::{Bytes, ReqSet};
+use std::alloc::Global;
 
-/// The plain blob of a requirement that `is_encodable`.
-pub fn encode(alloc: Global, req: &Req) -> Result<Bytes, OpsFault>
-    requires { IsEncodable (tree_of req.now) }
-    ensures plain { IfOk result (λ bytes. IsPlain (tree_of req.now) bytes) }
-    ensures long { IsErrOf result OpsFault.TooLong ↔ (1048576 < length (plain_blob (tree_of req.now))) }
-    ensures exact { Gives (λ bytes. bytes) result (encoded (tree_of req.now)) }
+/// The plain bytes of a set whose requirements can each be written: the parts under rising types,
+/// without gaps.
+pub fn encode_set(alloc: Global, set: &ReqSet) -> Result<Bytes, OpsFault>
+    requires { IsEncodableSet set.now }
+    ensures plain { IfOk result (λ bytes. IsPlainSet set.now bytes) }
+    ensures fault { IfErr result (λ fault. (fault ≡ OpsFault.OutOfMemory) ⊎ ((fault ≡ OpsFault.TooLong) × (1048576 < length (plain_set set.now)))) }
 {
-    let size = 12 + plain_size(req);
-    if size > MOST_BYTES {
-        return Err(OpsFault::TooLong);
+    let mut writer = SuperWriter::new(alloc, SET_MAGIC);
+    match add_kinds(alloc, &mut writer, set) {
+        Ok(()) => finish(writer),
+        Err(fault) => Err(fault),
     }
-    match write(alloc, size as u32, req) {
-        Ok(bytes) => Ok(bytes),
+}
+
+fn finish(writer: SuperWriter) -> Result<Bytes, OpsFault>
+    ensures { MatchResult result (λ bytes. (bytes ≡ written writer) × (length bytes ≤ 1048576) × IsSuperBlob writer.magic bytes × Holds writer.parts bytes) (λ fault. (fault ≡ OpsFault.OutOfMemory) ⊎ ((fault ≡ OpsFault.TooLong) × (1048576 < length (written writer)))) }
+{
+    match writer.finish() {
+        Ok(bytes) => within(bytes),
         Err(_) => Err(OpsFault::OutOfMemory),
     }
 }
 
-fn write(alloc: Global, size: u32, req: &Req) -> Result<Bytes, AllocError>
-    requires { size ≡ 12 + length (plain (tree_of req.now)) }
-    ensures plain { IfOk result (λ bytes. bytes ≡ plain_blob (tree_of req.now)) }
-    ensures fields { OnOk result (HasFields (tree_of req.now)) }
+fn within(bytes: Bytes) -> Result<Bytes, OpsFault>
+    ensures { MatchResult result (λ same. (same ≡ bytes) × (length bytes ≤ 1048576)) (λ fault. (fault ≡ OpsFault.TooLong) × (1048576 < length bytes)) }
 {
-    let mut out = Vec::with_capacity(alloc, size as usize)?;
-    put_blob(&mut out, size, req)?;
-    Ok(Bytes::from_vec(out))
+    if bytes.as_slice().len() > MOST_BYTES {
+        return Err(OpsFault::TooLong);
+    }
+    Ok(bytes)
 }
 
-fn put_blob(out: &mut Vec<u8>, size: u32, req: &Req) -> Result<(), AllocError>
-    requires { size ≡ 12 + length (plain (tree_of req.now)) }
-    ensures plain { OnOk result (out.new.items ≡ out.old.items ++ plain_blob (tree_of req.now)) }
-    ensures fields { OnOk result (HasFields (tree_of req.now)) }
+/// Adds the parts of all types to a writer that has none.
+fn add_kinds(alloc: Global, writer: &mut SuperWriter, set: &ReqSet) -> Result<(), OpsFault>
+    requires set { IsEncodableSet set.now }
+    requires empty { writer.old ≡ record { magic = set_magic; parts = [] } }
+    ensures { MatchResult result (λ _. IsDraftTo set.now 6 writer.new) (λ fault. (fault ≡ OpsFault.OutOfMemory) ⊎ ((fault ≡ OpsFault.TooLong) × ((kind : ℕ) × (kind < 6) × HasLongPart set.now kind))) }
 {
-    put_word(out, MAGIC)?;
-    put_word(out, size)?;
-    put_word(out, 1)?;
-    put_req(out, req)?;
-    Ok(())
-}
-
-fn put_req(out: &mut Vec<u8>, req: &Req) -> Result<(), AllocError>
-    ensures plain { OnOk result (out.new.items ≡ out.old.items ++ plain (tree_of req.now)) }
-    ensures fields { OnOk result (HasFields (tree_of req.now)) }
-{
-    match req {
-        Req::Never => put_word(out, 0)?,
-        Req::Always => put_word(out, 1)?,
-        Req::Ident { value } => {
-            put_word(out, 2)?;
-            put_datum(out, value.as_slice())?;
-        }
-        Req::AppleAnchor => put_word(out, 3)?,
-        Req::AnchorHash { slot, hash } => {
-            put_word(out, 4)?;
-            put_signed(out, *slot)?;
-            put_hash(out, hash)?;
-        }
-        Req::LegacyInfo { key, value } => {
-            put_word(out, 5)?;
-            put_datum(out, key.as_slice())?;
-            put_datum(out, value.as_slice())?;
-        }
-        Req::CdHash { hash } => {
-            put_word(out, 8)?;
-            put_hash(out, hash)?;
-        }
-        Req::InfoField { key, test } => {
-            put_word(out, 10)?;
-            put_datum(out, key.as_slice())?;
-            put_match(out, test)?;
-        }
-        Req::CertField { slot, key, test } => {
-            put_word(out, 11)?;
-            put_signed(out, *slot)?;
-            put_datum(out, key.as_slice())?;
-            put_match(out, test)?;
-        }
-        Req::TrustedCert { slot } => {
-            put_word(out, 12)?;
-            put_signed(out, *slot)?;
-        }
-        Req::TrustedAny => put_word(out, 13)?,
-        Req::CertOid { slot, oid, test } => {
-            put_word(out, 14)?;
-            put_signed(out, *slot)?;
-            put_oid(out, oid)?;
-            put_match(out, test)?;
-        }
-        Req::AppleGeneric => put_word(out, 15)?,
-        Req::EntitlementField { key, test } => {
-            put_word(out, 16)?;
-            put_datum(out, key.as_slice())?;
-            put_match(out, test)?;
-        }
-        Req::CertPolicy { slot, oid, test } => {
-            put_word(out, 17)?;
-            put_signed(out, *slot)?;
-            put_oid(out, oid)?;
-            put_match(out, test)?;
-        }
-        Req::NamedAnchor { name } => {
-            put_word(out, 18)?;
-            put_datum(out, name.as_slice())?;
-        }
-        Req::NamedCode { name } => {
-            put_word(out, 19)?;
-            put_datum(out, name.as_slice())?;
-        }
-        Req::Platform { number } => {
-            put_word(out, 20)?;
-            put_signed(out, *number)?;
-        }
-        Req::Notarized => put_word(out, 21)?,
-        Req::LegacyDevId => put_word(out, 23)?,
-        Req::Both { left, right } => {
-            put_word(out, 6)?;
-            put_req(out, left)?;
-            put_req(out, right)?;
-        }
-        Req::Either { left, right } => {
-            put_word(out, 7)?;
-            put_req(out, left)?;
-            put_req(out, right)?;
-        }
-        Req::Negate { inner } => {
-            put_word(out, 9)?;
-            put_req(out, inner)?;
-        }
-        Req::SkipFalse { op, skipped } => {
-            put_word(out, *op)?;
-            put_unpadded(out, skipped.as_slice())?;
-        }
-        Req::SkipNext { op, skipped, inner } => {
-            put_word(out, *op)?;
-            put_unpadded(out, skipped.as_slice())?;
-            put_req(out, inner)?;
+    for kind in 0..6 {
+        match add_kind(alloc, writer, set, kind) {
+            Ok(()) => {}
+            Err(fault) => return Err(fault),
         }
     }
     Ok(())
 }
 
-fn put_match(out: &mut Vec<u8>, test: &Match) -> Result<(), AllocError>
-    ensures { OnOk result (out.new.items ≡ out.old.items ++ match_text test.now) }
+fn add_kind(
+    alloc: Global,
+    writer: &mut SuperWriter,
+    set: &ReqSet,
+    kind: u32,
+) -> Result<(), OpsFault>
+    requires set { IsEncodableSet set.now }
+    requires low { kind < 6 }
+    requires before { IsDraftTo set.now kind writer.old }
+    ensures { MatchResult result (λ _. IsDraftTo set.now (kind + 1) writer.new) (λ fault. (fault ≡ OpsFault.OutOfMemory) ⊎ ((fault ≡ OpsFault.TooLong) × HasLongPart set.now kind)) }
 {
-    match test {
-        Match::Exists => put_word(out, 0)?,
-        Match::Equal(value) => put_comparison(out, 1, value)?,
-        Match::Contains(value) => put_comparison(out, 2, value)?,
-        Match::Begins(value) => put_comparison(out, 3, value)?,
-        Match::Ends(value) => put_comparison(out, 4, value)?,
-        Match::Less(value) => put_comparison(out, 5, value)?,
-        Match::Greater(value) => put_comparison(out, 6, value)?,
-        Match::LessEqual(value) => put_comparison(out, 7, value)?,
-        Match::GreaterEqual(value) => put_comparison(out, 8, value)?,
-        Match::Absent => put_word(out, 14)?,
+    match set.part(kind) {
+        None => Ok(()),
+        Some(req) => match encode(alloc, req) {
+            Ok(bytes) => add_bytes(alloc, writer, kind, bytes.as_slice()),
+            Err(fault) => Err(fault),
+        },
     }
-    Ok(())
 }
 
-fn put_comparison(out: &mut Vec<u8>, suffix: u32, value: &Bytes) -> Result<(), AllocError>
-    ensures { OnOk result (out.new.items ≡ out.old.items ++ (word suffix ++ datum value.now)) }
+fn add_bytes(
+    alloc: Global,
+    writer: &mut SuperWriter,
+    kind: u32,
+    part: &[u8],
+) -> Result<(), OpsFault>
+    requires sized { IsSized part.now }
+    requires fits { add_fault writer.old.parts kind part.now ≡ None }
+    ensures { MatchResult result (λ _. writer.new ≡ record writer.old { parts = writer.old.parts ++ (kind, part.now) ∷ [] }) (λ fault. fault ≡ OpsFault.OutOfMemory) }
 {
-    put_word(out, suffix)?;
-    put_datum(out, value.as_slice())?;
-    Ok(())
-}
-
-/// Four bytes, the highest first.
-#[tactic(auto, unfolding(cs_blob::specs::Numbers::word))]
-fn put_word(out: &mut Vec<u8>, number: u32) -> Result<(), AllocError>
-    ensures { OnOk result (out.new.items ≡ out.old.items ++ word number) }
-{
-    out.extend_from_slice(&number.to_be_bytes())?;
-    Ok(())
-}
-
-fn put_signed(out: &mut Vec<u8>, number: i32) -> Result<(), AllocError>
-    ensures word { OnOk result (out.new.items ≡ out.old.items ++ signed_word number) }
-    ensures slot { IsSlot number }
-{
-    put_word(out, number.cast_unsigned())
-}
-
-fn put_hash(out: &mut Vec<u8>, hash: &Hash20) -> Result<(), AllocError>
-    ensures datum { OnOk result (out.new.items ≡ out.old.items ++ datum hash.now.bytes) }
-    ensures hash { IsHash hash.now.bytes }
-{
-    put_datum(out, &hash.bytes)
-}
-
-fn put_oid(out: &mut Vec<u8>, oid: &Oid) -> Result<(), AllocError>
-    ensures datum { OnOk result (out.new.items ≡ out.old.items ++ datum oid.now) }
-    ensures oid { IsOidBytes oid.now }
-{
-    put_datum(out, oid.as_slice())
-}
-
-/// A length, of which the low 32 bits are written, that many bytes, and zeros up to a multiple of four.
-#[tactic(auto, unfolding(crate::specs::Words::datum))]
-fn put_datum(out: &mut Vec<u8>, bytes: &[u8]) -> Result<(), AllocError>
-    ensures { OnOk result (out.new.items ≡ out.old.items ++ datum bytes.now) }
-{
-    put_length(out, bytes.len())?;
-    out.extend_from_slice(bytes)?;
-    put_zeros(out, padding(bytes.len()))?;
-    Ok(())
-}
-
-#[tactic(auto, unfolding(crate::specs::Words::unpadded))]
-fn put_unpadded(out: &mut Vec<u8>, bytes: &[u8]) -> Result<(), AllocError>
-    ensures { OnOk result (out.new.items ≡ out.old.items ++ unpadded bytes.now) }
-{
-    put_length(out, bytes.len())?;
-    out.extend_from_slice(bytes)?;
-    Ok(())
-}
-
-fn put_length(out: &mut Vec<u8>, length: usize) -> Result<(), AllocError>
-    ensures { OnOk result (out.new.items ≡ out.old.items ++ word length) }
-{
-    put_word(out, (length % 0x1_0000_0000) as u32)
-}
-
-fn put_zeros(out: &mut Vec<u8>, count: usize) -> Result<(), AllocError>
-    requires { count ≤ 3 }
-    ensures { OnOk result (out.new.items ≡ out.old.items ++ zeros count) }
-{
-    out.extend_from_slice([0; 3].split_at(count).0)?;
-    Ok(())
+    match writer.add(alloc, kind, part) {
+        Ok(()) => Ok(()),
+        Err(_) => Err(OpsFault::OutOfMemory),
+    }
 }

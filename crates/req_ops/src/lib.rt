@@ -1,27 +1,19 @@
-//! Requirements as bytes: the opcodes of the code signing requirement language, read and written.
+//! Requirements and sets of requirements as bytes, read and written. Single ones are those of `req_blob`.
 #![tactic(auto)]
 
 mod decoding;
 mod encodable;
 mod encoding;
 mod fault;
-mod field;
 pub mod laws;
-mod leaf;
-mod opcode;
 mod round_trip;
-mod set_decoding;
-mod set_encoding;
-mod size;
-mod tree;
 
-pub use decoding::decode;
-pub use encodable::{is_encodable, is_encodable_set};
-pub use encoding::encode;
-pub use fault::{OpsFault, SetFault};
-pub use round_trip::{reread, respell};
-pub use set_decoding::decode_set;
-pub use set_encoding::encode_set;
+pub use decoding::decode_set;
+pub use encodable::is_encodable_set;
+pub use encoding::encode_set;
+pub use fault::SetFault;
+pub use req_blob::{OpsFault, decode, encode, is_encodable, reread, respell};
+pub use round_trip::{reread_set, respell_set};
 
 #[cfg(test)]
 mod tests;

@@ -1,35 +1,63 @@
-//! Bytes that are read and written again, and the other way round.
+//! Sets that are written and read again, and the other way round.
 
 ghost use Rattle.std.specs.Prelude.{◌≡◌, ◌<◌, ◌↔◌, ◌⊎◌, length, IfOk, IfErr};
-ghost use Rattle.req_tree.specs.Tree.{Tree, tree_of};
-ghost use Rattle.req_ops.specs.Spelling.{IsSpelling, IsPlain, plain_blob};
-ghost use Rattle.req_ops.specs.Encoding.{IsEncodable};
+ghost use Rattle.req_tree.specs.TreeSet.{TreeSet};
+ghost use Rattle.req_ops.specs.Sets.{IsSetSpelling, SetFails};
+ghost use Rattle.req_ops.specs.SetEncoding.{IsEncodableSet, IsPlainSet, plain_set};
 
-use crate::decoding::decode;
-use crate::encoding::encode;
-use crate::fault::OpsFault;
-use req_tree::{Bytes, Req};
+use crate::decoding::decode_set;
+use crate::encoding::encode_set;
+use crate::fault::SetFault;
+use req_blob::OpsFault;
+use req_tree::{Bytes, ReqSet};
 use std::alloc::Global;
 
-/// A requirement that is written and read again is the same one.
-pub fn reread(alloc: Global, req: &Req) -> Result<Req, OpsFault>
-    requires { IsEncodable (tree_of req.now) }
-    ensures same { IfOk result (λ again. tree_of again ≡ tree_of req.now) }
-    ensures fault { IfErr result (λ fault. (fault ≡ OpsFault.OutOfMemory) ⊎ ((fault ≡ OpsFault.TooLong) × (1048576 < length (plain_blob (tree_of req.now))))) }
+/// A set that is written and read again is the same one.
+pub fn reread_set(alloc: Global, set: &ReqSet) -> Result<ReqSet, SetFault>
+    requires { IsEncodableSet set.now }
+    ensures same { IfOk result (λ again. again ≡ set.now) }
+    ensures fault { IfErr result (λ fault. (fault ≡ SetFault.OutOfMemory) ⊎ ((fault ≡ SetFault.TooLong) × (1048576 < length (plain_set set.now)))) }
 {
-    match encode(alloc, req) {
-        Ok(bytes) => decode(alloc, bytes.as_slice()),
+    match encode_set(alloc, set) {
+        Ok(bytes) => decode_set(alloc, bytes.as_slice()),
+        Err(fault) => Err(unwritten(fault)),
+    }
+}
+
+/// Bytes that are read as a set and written again are the same exactly where they are plain.
+pub fn respell_set(alloc: Global, bytes: &[u8]) -> Result<Bytes, SetFault>
+    ensures spells { IfOk result (λ again. (set : TreeSet) × IsSetSpelling set bytes.now × IsPlainSet set again) }
+    ensures same { IfOk result (λ again. (again ≡ bytes.now) ↔ ((set : TreeSet) × IsPlainSet set bytes.now)) }
+    // Nothing else than reading refuses, but for a set that is too long when plain.
+    ensures fault { IfErr result (λ fault. SetFails bytes.now fault ⊎ ((fault ≡ SetFault.TooLong) × ((set : TreeSet) × IsSetSpelling set bytes.now × (1048576 < length (plain_set set))))) }
+{
+    match decode_set(alloc, bytes) {
+        Ok(set) => write_again(alloc, set),
         Err(fault) => Err(fault),
     }
 }
 
-/// Bytes that are read and written again are the same exactly where they are plain.
-pub fn respell(alloc: Global, bytes: &[u8]) -> Result<Bytes, OpsFault>
-    ensures spells { IfOk result (λ again. (tree : Tree) × IsSpelling tree bytes.now × IsPlain tree again) }
-    ensures same { IfOk result (λ again. (again ≡ bytes.now) ↔ ((tree : Tree) × IsPlain tree bytes.now)) }
+fn write_again(alloc: Global, set: ReqSet) -> Result<Bytes, SetFault>
+    requires { IsEncodableSet set }
+    ensures plain { IfOk result (λ bytes. IsPlainSet set bytes) }
+    ensures fault { IfErr result (λ fault. (fault ≡ SetFault.OutOfMemory) ⊎ ((fault ≡ SetFault.TooLong) × (1048576 < length (plain_set set)))) }
 {
-    match decode(alloc, bytes) {
-        Ok(req) => encode(alloc, &req),
-        Err(fault) => Err(fault),
+    let written = encode_set(alloc, &set);
+    drop(set);
+    match written {
+        Ok(bytes) => Ok(bytes),
+        Err(fault) => Err(unwritten(fault)),
+    }
+}
+
+/// Why a set isn't written, as a fault of sets.
+fn unwritten(fault: OpsFault) -> SetFault
+    requires { (fault ≡ OpsFault.OutOfMemory) ⊎ (fault ≡ OpsFault.TooLong) }
+    ensures memory { (fault ≡ OpsFault.OutOfMemory) ↔ (result ≡ SetFault.OutOfMemory) }
+    ensures long { (fault ≡ OpsFault.TooLong) ↔ (result ≡ SetFault.TooLong) }
+{
+    match fault {
+        OpsFault::TooLong => SetFault::TooLong,
+        _ => SetFault::OutOfMemory,
     }
 }

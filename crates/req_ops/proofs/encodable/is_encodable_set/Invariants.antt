@@ -1,7 +1,7 @@
 use Rattle.std.proofs.Common.{ℕ, ◌<◌}
 use Rattle.std.specs.Prelude.{IfSome}
 use Rattle.req_tree.specs.TreeSet.{part_of}
-use Rattle.req_ops.specs.Encoding.{IsEncodable}
+use Rattle.req_blob.specs.Encoding.{IsEncodable}
 use Rattle.req_ops.proofs.encodable.is_encodable_set.Given as goal
 
 abbrev pub invariant-loop-kind : goal.invariant-loop-kind

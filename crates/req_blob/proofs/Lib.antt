@@ -1,0 +1,10 @@
+pub mod Oids
+pub mod Turns
+pub mod Fields
+pub mod Table
+pub mod Leaves
+pub mod Trees
+pub mod Lengths
+pub mod Blobs
+pub mod Plain
+pub mod Written

@@ -1,0 +1,151 @@
+-- What is written is plain, and is read again.
+use Rattle.std.proofs.Common.{◌≡◌, ◌≢◌, ℕ, ◌+◌, ◌<◌, ◌≤◌, min, Bool, true, false, cond, ltb, List, length, Result, Ok, Err, refl, sym, ap, subst, ◌∙◌, arith, ◌⊎◌, inl, inr}
+use Rattle.std.specs.Prelude.{IfOk, IfErr}
+use Rattle.std.proofs.lemmas.Bool.{le-ltb}
+use Rattle.std.proofs.lemmas.Bool.Decides.{nat_tests}
+use Rattle.req_tree.specs.Tree.{Tree, tree_of}
+use Rattle.req_tree.specs.declared.req.Req.{Req}
+use Rattle.req_blob.specs.declared.fault.OpsFault.{OpsFault}
+use Rattle.req_blob.specs.declared.fault.OpsFault.TheVariants as fault
+use Rattle.req_blob.specs.Spelling.{IsSpelling, IsPlain, plain, plain_blob}
+use Rattle.req_blob.specs.Encoding.{IsEncodable, HasFields, encoded}
+use Rattle.req_blob.specs.Reading.{Gives}
+use Rattle.req_blob.proofs.Fields.{ok_is}
+use Rattle.req_blob.proofs.Blobs.{length-requirement, one_tree}
+use Rattle.req_blob.specs.Decoding.{decoded}
+use Rattle.req_blob.proofs.Plain.{plain_spells, spelled_can, spelled_size}
+
+pub is_plain : (tree : Tree) (bytes : List ℕ) → IsEncodable tree → HasFields tree → length (plain_blob tree) ≤ 1048576 → bytes ≡ plain_blob tree → IsPlain tree bytes
+is_plain tree bytes can has short is =
+    let size : length (plain_blob tree) ≡ 12 + length (plain tree) = length-requirement (plain tree) in
+    record {
+      spelled = record {
+        expression = plain tree;
+        blob = is;
+        spelled = plain_spells tree has can.spellable (omega (arith, size, short));
+        shallow = can.shallow;
+        short = subst (λ (b : List ℕ). length b ≤ 1048576) (sym is) short;
+      };
+      plain_is = is;
+    }
+
+pub can_encode : (tree : Tree) (bytes : List ℕ) → IsSpelling tree bytes → IsEncodable tree
+can_encode tree bytes is = record { shallow = is.shallow; spellable = spelled_can tree is.expression is.spelled }
+
+-- ---- sizes
+
+pub long_size : (n : ℕ) (tree : Tree) → n ≡ min (length (plain tree)) 1048577 → 1048576 < 12 + n → 1048576 < length (plain_blob tree)
+long_size n tree is h =
+    let size : length (plain_blob tree) ≡ 12 + length (plain tree) = length-requirement (plain tree) in
+    omega (arith, size, is, h)
+
+pub short_size : (n : ℕ) (tree : Tree) → n ≡ min (length (plain tree)) 1048577 → 12 + n ≤ 1048576 → length (plain_blob tree) ≤ 1048576
+short_size n tree is h =
+    let size : length (plain_blob tree) ≡ 12 + length (plain tree) = length-requirement (plain tree) in
+    omega (arith, size, is, h)
+
+pub encoded_long : (tree : Tree) → 1048576 < length (plain_blob tree) → encoded tree ≡ Err fault.TooLong
+encoded_long tree long = ap (λ (b : Bool). cond b (Err fault.TooLong) (Ok (plain_blob tree))) (is_less 1048576 (length (plain_blob tree)) long)
+  where
+    is_less : (m n : ℕ) → m < n → ltb m n ≡ true
+    is_less m n h = grind (arith, nat_tests)
+
+pub encoded_short : (tree : Tree) (bytes : List ℕ) → length (plain_blob tree) ≤ 1048576 → bytes ≡ plain_blob tree → encoded tree ≡ Ok bytes
+encoded_short tree bytes short is = ap (λ (b : Bool). cond b (Err fault.TooLong) (Ok (plain_blob tree))) (le-ltb _ _ short) ∙ ap Ok (sym is)
+
+-- ---- round trips
+
+memory_alone : (e : OpsFault) → (e ≢ fault.OutOfMemory → ⊥) → e ≡ fault.OutOfMemory
+memory_alone fault.OutOfMemory h = refl
+memory_alone (fault.Blob why) h = absurd (h (λ p. cc))
+memory_alone fault.BadKind h = absurd (h (λ p. cc))
+memory_alone (fault.UnknownOp at op) h = absurd (h (λ p. cc))
+memory_alone (fault.OutOfScopeOp at) h = absurd (h (λ p. cc))
+memory_alone (fault.UnknownMatch at suffix) h = absurd (h (λ p. cc))
+memory_alone (fault.Cut at) h = absurd (h (λ p. cc))
+memory_alone (fault.BadPadding at) h = absurd (h (λ p. cc))
+memory_alone (fault.BadHashLength at) h = absurd (h (λ p. cc))
+memory_alone (fault.TooDeep at) h = absurd (h (λ p. cc))
+memory_alone (fault.Trailing at) h = absurd (h (λ p. cc))
+memory_alone (fault.BadOid at) h = absurd (h (λ p. cc))
+memory_alone fault.TooLong h = absurd (h (λ p. cc))
+memory_alone (fault.BadKey at) h = absurd (h (λ p. cc))
+
+abbrev read_as : Tree → Result Tree OpsFault
+read_as tree = Ok tree
+
+ok_not_err : (tree : Tree) (e : OpsFault) → read_as tree ≡ Err e → ⊥
+ok_not_err tree e h = cc
+
+pub same_again : (r : Result Req OpsFault) (tree : Tree) → Gives tree_of r (Ok tree) → IfOk r (λ again. tree_of again ≡ tree)
+same_again (Ok req) tree given = sym (ok_is tree (tree_of req) given)
+same_again (Err e) tree given = tt
+
+pub fault_again : (r : Result Req OpsFault) (tree : Tree) → Gives tree_of r (Ok tree) → IfErr r (λ e. (e ≡ fault.OutOfMemory) ⊎ ((e ≡ fault.TooLong) × (1048576 < length (plain_blob tree))))
+fault_again (Ok req) tree given = tt
+fault_again (Err e) tree given = inl (memory_alone e (λ other. ok_not_err tree e (given other)))
+
+pub fault_written : (e : OpsFault) (tree : Tree) → (e ≢ fault.OutOfMemory → encoded tree ≡ Err e) → (e ≡ fault.OutOfMemory) ⊎ ((e ≡ fault.TooLong) × (1048576 < length (plain_blob tree)))
+fault_written e tree given = by_size (ltb 1048576 (length (plain_blob tree))) refl given
+  where
+    too_long : OpsFault → ◌≡◌ {A = Result (List ℕ) OpsFault} (Err fault.TooLong) (Err e) → e ≡ fault.TooLong
+    too_long d h = cc
+
+    no_fault : (bytes : List ℕ) → ◌≡◌ {A = Result (List ℕ) OpsFault} (Ok bytes) (Err e) → ⊥
+    no_fault bytes h = cc
+
+    is_memory : (d : OpsFault) → ((d ≡ fault.OutOfMemory) ⊎ (d ≢ fault.OutOfMemory))
+    is_memory fault.OutOfMemory = inl refl
+    is_memory (fault.Blob why) = inr (λ p. cc)
+    is_memory fault.BadKind = inr (λ p. cc)
+    is_memory (fault.UnknownOp at op) = inr (λ p. cc)
+    is_memory (fault.OutOfScopeOp at) = inr (λ p. cc)
+    is_memory (fault.UnknownMatch at suffix) = inr (λ p. cc)
+    is_memory (fault.Cut at) = inr (λ p. cc)
+    is_memory (fault.BadPadding at) = inr (λ p. cc)
+    is_memory (fault.BadHashLength at) = inr (λ p. cc)
+    is_memory (fault.TooDeep at) = inr (λ p. cc)
+    is_memory (fault.Trailing at) = inr (λ p. cc)
+    is_memory (fault.BadOid at) = inr (λ p. cc)
+    is_memory fault.TooLong = inr (λ p. cc)
+    is_memory (fault.BadKey at) = inr (λ p. cc)
+
+    by_size : (b : Bool) → ltb 1048576 (length (plain_blob tree)) ≡ b → (e ≢ fault.OutOfMemory → cond b (Err fault.TooLong) (Ok (plain_blob tree)) ≡ Err e)
+        → (e ≡ fault.OutOfMemory) ⊎ ((e ≡ fault.TooLong) × (1048576 < length (plain_blob tree)))
+    by_size true long h =
+        elim (is_memory e) [
+          | inl is ↦ inl is
+          | inr other ↦ inr (too_long e (h other), grind (arith, nat_tests, long))
+        ]
+    by_size false long h = inl (memory_alone e (λ other. no_fault (plain_blob tree) (h other)))
+
+-- bytes come back exactly where they are plain
+pub plain_again : (tree : Tree) (bytes again : List ℕ) → IsSpelling tree bytes → IsPlain tree again → (again ≡ bytes → (t : Tree) × IsPlain t bytes) × (((t : Tree) × IsPlain t bytes) → again ≡ bytes)
+plain_again tree bytes again spelled written = (
+  λ same. (tree, subst (λ (b : List ℕ). IsPlain tree b) same written),
+  λ is. written.plain_is ∙ ap plain_blob (one_tree tree is.0 bytes spelled is.1.spelled) ∙ sym is.1.plain_is,
+)
+
+pub respelled_spells : (r : Result (List ℕ) OpsFault) (tree : Tree) (bytes : List ℕ) → IsSpelling tree bytes → IfOk r (λ b. IsPlain tree b) → IfOk r (λ again. (t : Tree) × IsSpelling t bytes × IsPlain t again)
+respelled_spells (Ok again) tree bytes spelled written = (tree, spelled, written)
+respelled_spells (Err e) tree bytes spelled written = tt
+
+pub respelled_same : (r : Result (List ℕ) OpsFault) (tree : Tree) (bytes : List ℕ) → IsSpelling tree bytes → IfOk r (λ b. IsPlain tree b)
+    → IfOk r (λ again. (again ≡ bytes → (t : Tree) × IsPlain t bytes) × (((t : Tree) × IsPlain t bytes) → again ≡ bytes))
+respelled_same (Ok again) tree bytes spelled written = plain_again tree bytes again spelled written
+respelled_same (Err e) tree bytes spelled written = tt
+
+-- nothing that is read is too long to be written
+pub respelled_fault : (r : Result (List ℕ) OpsFault) (tree : Tree) (bytes : List ℕ) → IsSpelling tree bytes → Gives (λ b. b) r (encoded tree) → IfErr r (λ e. e ≢ fault.OutOfMemory → decoded bytes ≡ Err e)
+respelled_fault (Ok again) tree bytes spelled given = tt
+respelled_fault (Err e) tree bytes spelled given = λ other. absurd (elim (fault_written e tree given) [
+  | inl is ↦ other is
+  | inr long ↦ not_long long.1
+])
+  where
+    not_long : 1048576 < length (plain_blob tree) → ⊥
+    not_long long =
+        let short : length bytes ≤ 1048576 = spelled.short in
+        let size : length bytes ≡ 12 + length spelled.expression = ap length spelled.blob ∙ length-requirement spelled.expression in
+        let same : length spelled.expression ≡ length (plain tree) = spelled_size tree spelled.expression spelled.spelled in
+        absurd (omega (arith, long, short, size, same, length-requirement (plain tree)))

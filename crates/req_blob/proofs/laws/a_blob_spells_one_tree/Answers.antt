@@ -1,0 +1,5 @@
+use Rattle.req_blob.proofs.Blobs.{one_tree}
+use Rattle.req_blob.proofs.laws.a_blob_spells_one_tree.Goals as goal
+
+pub returns : goal.returns
+returns c = one_tree

@@ -1,0 +1,26 @@
+-- Sets come back.
+use Rattle.std.proofs.Common.{◌≡◌, ℕ, ◌<◌, Result, Ok, Err, List, length, sym, ap, subst, ◌∙◌, ◌⊎◌, inl}
+use Rattle.std.specs.Prelude.{IfOk, IfErr, MatchResult}
+use Rattle.req_tree.specs.TreeSet.{TreeSet}
+use Rattle.req_ops.specs.declared.fault.SetFault.{SetFault}
+use Rattle.req_ops.specs.declared.fault.SetFault.TheVariants.{TooLong, OutOfMemory}
+use Rattle.req_ops.specs.Sets.{IsSetSpelling}
+use Rattle.req_ops.specs.SetEncoding.{IsPlainSet, plain_set}
+use Rattle.req_ops.proofs.SetLaws.{one_set}
+
+pub same_again : (r : Result TreeSet SetFault) (s : TreeSet) → MatchResult r (λ read. read ≡ s) (λ e. e ≡ OutOfMemory) → IfOk r (λ again. again ≡ s)
+same_again (Ok read) s h = h
+same_again (Err e) s h = tt
+
+pub fault_again : (r : Result TreeSet SetFault) (s : TreeSet) → MatchResult r (λ read. read ≡ s) (λ e. e ≡ OutOfMemory)
+    → IfErr r (λ e. (e ≡ OutOfMemory) ⊎ ((e ≡ TooLong) × (1048576 < length (plain_set s))))
+fault_again (Ok read) s h = tt
+fault_again (Err e) s h = inl h
+
+pub respelled_same : (r : Result (List ℕ) SetFault) (s : TreeSet) (bytes : List ℕ) → IsSetSpelling s bytes → IfOk r (λ b. IsPlainSet s b)
+    → IfOk r (λ again. (again ≡ bytes → (t : TreeSet) × IsPlainSet t bytes) × (((t : TreeSet) × IsPlainSet t bytes) → again ≡ bytes))
+respelled_same (Ok again) s bytes spelled written = (
+  λ same. (s, subst (λ (b : List ℕ). IsPlainSet s b) same written),
+  λ is. written.plain_is ∙ ap plain_set (one_set s is.0 bytes spelled is.1.spelled) ∙ sym is.1.plain_is,
+)
+respelled_same (Err e) s bytes spelled written = tt

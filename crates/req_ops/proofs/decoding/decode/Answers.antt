@@ -1,9 +1,0 @@
-use Rattle.std.proofs.Common.{arith}
-use Rattle.req_ops.proofs.Blobs.{is_found, is_only}
-use Rattle.req_ops.proofs.decoding.decode.Goals as goal
-
-pub returns-clause-found : goal.returns-clause-found
-returns-clause-found c = is_found _ _ (λ i. omega (arith, c.type_inv.bytes i)) c.decode_first.ensures
-
-pub returns-clause-only : goal.returns-clause-only
-returns-clause-only c = λ tree is. is_only _ _ tree is c.decode_first.ensures

@@ -1,5 +1,0 @@
-use Rattle.req_ops.proofs.Blobs.{one_tree}
-use Rattle.req_ops.proofs.laws.a_blob_spells_one_tree.Goals as goal
-
-pub returns : goal.returns
-returns c = one_tree

@@ -1,5 +1,0 @@
-use Rattle.req_ops.proofs.Trees.{one_front}
-use Rattle.req_ops.proofs.laws.a_front_spells_one_tree.Goals as goal
-
-pub returns : goal.returns
-returns c = one_front

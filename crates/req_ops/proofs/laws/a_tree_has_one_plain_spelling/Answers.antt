@@ -1,5 +1,0 @@
-use Rattle.std.proofs.Common.{sym, ◌∙◌}
-use Rattle.req_ops.proofs.laws.a_tree_has_one_plain_spelling.Goals as goal
-
-pub returns : goal.returns
-returns c = λ tree a b p q. p.plain_is ∙ sym q.plain_is

@@ -1,5 +1,0 @@
-use Rattle.req_ops.specs.Sets.{HasRead}
-use Rattle.req_ops.proofs.set_decoding.add_parts.Given as goal
-
-abbrev pub invariant-loop-index : goal.invariant-loop-index
-invariant-loop-index l = HasRead l.blob.whole l.index l.set

@@ -1,5 +1,0 @@
-use Rattle.req_ops.proofs.SetLaws.{and_read}
-use Rattle.req_ops.proofs.set_decoding.decode_parts.Goals as goal
-
-pub returns : goal.returns
-returns c = rw c.and.ensures (and_read _ _ _ c.add_parts-added.ensures)

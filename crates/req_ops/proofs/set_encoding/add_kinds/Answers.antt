@@ -1,5 +1,0 @@
-use Rattle.req_ops.proofs.SetWritten.{draft_none}
-use Rattle.req_ops.proofs.set_encoding.add_kinds.Goals as goal
-
-pub loop-kind-init : goal.loop-kind-init
-loop-kind-init c = draft_none _ _ c.requires.empty
