@@ -9,7 +9,7 @@ use Rattle.byteorder.specs.Endian.{big_number}
 use Rattle.req_tree.specs.Tree.{Tree, tree_of}
 use Rattle.req_tree.specs.Depth.{depth_of}
 use Rattle.req_tree.specs.declared.req.Req.{Req}
-use Rattle.req_tree.proofs.OidNumbers.{IsBytes}
+use Rattle.req_tree.specs.Oid.{IsBytes}
 use Rattle.cs_blob.specs.Numbers.{word, number_at}
 use Rattle.cs_blob.specs.Blobs.{IsBlob, blob_fault}
 use Rattle.cs_blob.specs.declared.fault.BlobFault.{BlobFault}

@@ -11,14 +11,15 @@ use Rattle.std.proofs.lemmas.List.{take_at, drop_at, take-append-drop, length-ap
 use Rattle.std.proofs.lemmas.Nat.{be_bytes_4, from_be_bytes-to_be_bytes_4}
 use Rattle.req_tree.specs.declared.matching.Match.{Match}
 use Rattle.req_tree.specs.declared.matching.Match.TheVariants.{Exists, Absent, Equal, Contains, Begins, Ends, Less, Greater, LessEqual, GreaterEqual}
-use Rattle.req_tree.proofs.OidNumbers.{IsBytes}
+use Rattle.req_tree.specs.Oid.{IsBytes}
 use Rattle.req_blob.specs.declared.fault.OpsFault.{OpsFault}
 use Rattle.req_blob.specs.declared.fault.OpsFault.TheVariants as fault
 use Rattle.cs_blob.specs.Numbers.{word}
 use Rattle.req_blob.specs.Words.{signed_word, datum, unpadded, match_text, padding, zeros}
 use Rattle.req_blob.specs.Spelling.{IsText, IsSlot, IsHash, IsFieldKey, IsOidDatum, IsTest, is_reserved}
-use Rattle.req_blob.specs.Reading.{◌>>=◌, place, word_at, signed_at, padded_at, datum_at, unpadded_at, hash_at, key_at, is_oid, oid_of, oid_at, comparison, comparison_at, test_at, match_at}
-use Rattle.req_blob.proofs.Oids.{is_oid-sound, is_oid-complete}
+use Rattle.req_blob.specs.Reading.{◌>>=◌, place, word_at, signed_at, padded_at, datum_at, unpadded_at, hash_at, key_at, oid_of, oid_at, comparison, comparison_at, test_at, match_at}
+use Rattle.req_tree.specs.OidReading.{is_oid}
+use Rattle.req_tree.proofs.OidTest.{is_oid-sound, is_oid-complete}
 
 pub IsBytes-drop : (n : ℕ) (bytes : List ℕ) → IsBytes bytes → IsBytes (drop n bytes)
 IsBytes-drop n bytes h i = rw get_or-drop (h (n + i))

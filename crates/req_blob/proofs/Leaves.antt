@@ -4,7 +4,7 @@ use Rattle.req_tree.specs.declared.matching.Match.{Match}
 use Rattle.req_tree.specs.Tree as t
 use Rattle.req_tree.specs.Tree.{Tree}
 use Rattle.req_tree.specs.Depth.{depth_of}
-use Rattle.req_tree.proofs.OidNumbers.{IsBytes}
+use Rattle.req_tree.specs.Oid.{IsBytes}
 use Rattle.req_blob.specs.declared.fault.OpsFault.{OpsFault}
 use Rattle.req_blob.specs.declared.opcode.Leaf.{Leaf}
 use Rattle.req_blob.specs.declared.opcode.Leaf.TheVariants as l

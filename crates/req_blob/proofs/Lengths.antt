@@ -1,6 +1,6 @@
 -- How long the parts of an expression are.
 use Rattle.std.proofs.Common.{◌≡◌, ℕ, ◌+◌, ◌%◌, ◌^◌, ◌<◌, ◌≤◌, List, [], ◌∷◌, ◌++◌, length, take, refl, sym, ap, ◌∙◌, arith, length-append}
-use Rattle.std.proofs.lemmas.List.{length-replicate, take-replicate}
+use Rattle.std.proofs.lemmas.List.{length-replicate}
 use Rattle.cs_blob.specs.Numbers.{word}
 use Rattle.req_blob.specs.Words.{datum, unpadded, padding, zeros}
 use Rattle.req_blob.proofs.Fields.{length-word}
@@ -23,7 +23,3 @@ word-low n = byte_by_byte _ _ _ _ _ _ _ _ (omega arith) (omega arith) (omega ari
   where
     byte_by_byte : (a b c d e f g h : ℕ) → a ≡ e → b ≡ f → c ≡ g → d ≡ h → (a ∷ b ∷ c ∷ d ∷ []) ≡ (e ∷ f ∷ g ∷ h ∷ [])
     byte_by_byte a b c d e f g h p q r s = cc
-
--- the front of three zeros
-pub zeros_front : (n : ℕ) → n ≤ 3 → take n (zeros 3) ≡ zeros n
-zeros_front n few = take-replicate n 3 0 few

@@ -1,4 +1,3 @@
-pub mod Oids
 pub mod Turns
 pub mod Fields
 pub mod Table

@@ -4,7 +4,7 @@ use Rattle.std.proofs.lemmas.List.{append_cancel_right}
 use Rattle.req_tree.specs.Tree as t
 use Rattle.req_tree.specs.Tree.{Tree}
 use Rattle.req_tree.specs.Depth.{depth_of}
-use Rattle.req_tree.proofs.OidNumbers.{IsBytes}
+use Rattle.req_tree.specs.Oid.{IsBytes}
 use Rattle.req_blob.specs.declared.fault.OpsFault.{OpsFault}
 use Rattle.req_blob.specs.declared.opcode.Opcode.{Opcode}
 use Rattle.req_blob.specs.declared.opcode.Opcode.TheVariants as o

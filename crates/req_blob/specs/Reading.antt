@@ -1,12 +1,12 @@
 -- An expression read from the front, as the first fault that is met or a tree and what follows it.
-use Rattle.std.specs.Prelude.{ℕ, ◌≡◌, ◌≢◌, ◌+◌, ◌-◌, ◌==◌, nat_lt, ◌||◌, if◌then◌else◌, zero, suc, Bool, false, List, length, take, drop, Option, Some, None, Result, Ok, Err, ℤ}
+use Rattle.std.specs.Prelude.{ℕ, ◌≡◌, ◌≢◌, ◌+◌, ◌-◌, ◌==◌, nat_lt, if◌then◌else◌, zero, suc, List, length, take, drop, Result, Ok, Err, ℤ}
 use Rattle.std.specs.Int.{w32, from_be_bytes, cast_signed}
 use Rattle.std.specs.List.{list_all}
 use Rattle.req_tree.specs.declared.matching.Match.{Match}
 use Rattle.req_tree.specs.declared.matching.Match.TheVariants.{Exists, Absent, Equal, Contains, Begins, Ends, Less, Greater, LessEqual, GreaterEqual}
 use Rattle.req_tree.specs.Tree as t
 use Rattle.req_tree.specs.Tree.{Tree}
-use Rattle.req_tree.specs.OidReading.{number_at}
+use Rattle.req_tree.specs.OidReading.{is_oid}
 use Rattle.req_blob.specs.declared.fault.OpsFault.{OpsFault}
 use Rattle.req_blob.specs.declared.fault.OpsFault.TheVariants as fault
 use Rattle.req_blob.specs.declared.opcode.Leaf.{Leaf}
@@ -66,16 +66,6 @@ unfoldable pub key_at : ℕ → List ℕ → Result (List ℕ × List ℕ) OpsFa
 key_at size bytes = do
   x ← datum_at size bytes
   if is_reserved x.0 then Err (fault.BadKey (place size bytes)) else Ok x
-
--- the bytes are whole numbers, the first of which is read already; the count bounds them
-abbrev pub numbers_behind : ℕ → Option (ℕ × List ℕ) → Bool
-numbers_behind count None = false
-numbers_behind zero (Some p) = length p.1 == 0
-numbers_behind (suc count) (Some p) = length p.1 == 0 || numbers_behind count (number_at p.1)
-
--- whole numbers, and not none
-unfoldable pub is_oid : List ℕ → Bool
-is_oid bytes = numbers_behind (length bytes) (number_at bytes)
 
 -- the object identifier in a datum that begins at a place
 unfoldable pub oid_of : ℕ → List ℕ → Result (List ℕ) OpsFault

@@ -166,6 +166,7 @@ pub(crate) fn oid_at(alloc: Global, size: u32, bytes: &[u8]) -> Result<(Oid, &[u
 }
 
 /// The object identifier in a datum that begins at a place.
+#[tactic(auto, unfolding(crate::specs::Reading::oid_of))]
 fn oid_of(alloc: Global, at: u32, text: &[u8]) -> Result<Oid, OpsFault>
     ensures { Gives (λ x. x) result (spec.oid_of at text.now) }
 {

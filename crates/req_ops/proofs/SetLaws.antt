@@ -6,7 +6,7 @@ use Rattle.std.specs.Result.{result_and}
 use Rattle.std.proofs.lemmas.List.{append-nil}
 use Rattle.req_tree.specs.Tree.{Tree}
 use Rattle.req_tree.specs.TreeSet.{TreeSet, IsSetKind, part_of}
-use Rattle.req_tree.proofs.OidNumbers.{IsBytes}
+use Rattle.req_tree.specs.Oid.{IsBytes}
 use Rattle.cs_blob.specs.SuperBlobs.{IsSuperBlob, IsPartOf, count_of, kind_at, part_at, offset_at, length_at}
 use Rattle.cs_blob.specs.declared.fault.BlobFault.{BlobFault}
 use Rattle.cs_blob.proofs.BlobLemmas.{same_blob}
@@ -100,42 +100,28 @@ whole_alone : (bytes whole rest : List ℕ) → bytes ≡ whole ++ rest → rest
 whole_alone bytes whole rest parts none = sym (parts ∙ ap (λ (r : List ℕ). whole ++ r) none ∙ append-nil whole)
 
 -- what reading the whole tells
-abbrev pub WholeRead : List ℕ → List ℕ → List ℕ → Result TreeSet SetFault → Type 0
-WholeRead bytes whole rest r = MatchResult r (λ set. (rest ≡ []) × (length whole ≤ 1048576) × HasRead whole (count_of whole) set) (λ fault. SetFails bytes fault)
+abbrev pub WholeRead : List ℕ → List ℕ → Result TreeSet SetFault → Type 0
+WholeRead whole rest r = MatchResult r (λ set. (rest ≡ []) × (length whole ≤ 1048576) × HasRead whole (count_of whole) set) (λ fault. SetFails (whole ++ rest) fault)
 
-pub set_found : (bytes whole rest : List ℕ) (r : Result TreeSet SetFault) → IsBytes bytes → IsSuperBlob set_magic whole → bytes ≡ whole ++ rest → WholeRead bytes whole rest r → IfOk r (λ set. IsSetSpelling set bytes)
+pub set_found : (bytes whole rest : List ℕ) (r : Result TreeSet SetFault) → IsBytes bytes → IsSuperBlob set_magic whole → bytes ≡ whole ++ rest → WholeRead whole rest r → IfOk r (λ set. IsSetSpelling set bytes)
 set_found bytes whole rest (Err fault) are blob parts h = tt
 set_found bytes whole rest (Ok set) are blob parts h =
     let same : whole ≡ bytes = whole_alone bytes whole rest parts h.0 in
     subst (λ (b : List ℕ). IsSetSpelling set b) same (read_spells whole set (subst IsBytes (sym same) are) blob h.1 h.2)
 
-pub set_only : (bytes whole rest : List ℕ) (r : Result TreeSet SetFault) (set : TreeSet) → bytes ≡ whole ++ rest → WholeRead bytes whole rest r → IsSetSpelling set bytes
+pub set_only : (bytes whole rest : List ℕ) (r : Result TreeSet SetFault) (set : TreeSet) → bytes ≡ whole ++ rest → WholeRead whole rest r → IsSetSpelling set bytes
     → MatchResult r (λ read. read ≡ set) (λ fault. fault ≡ OutOfMemory)
-set_only bytes whole rest (Err fault) set parts h is = no_set_fault bytes set fault is h
+set_only bytes whole rest (Err fault) set parts h is = no_set_fault bytes set fault is (subst (λ (b : List ℕ). SetFails b fault) (sym parts) h)
 set_only bytes whole rest (Ok read) set parts h is =
     let same : whole ≡ bytes = whole_alone bytes whole rest parts h.0 in
     same_set whole read set h.2 (subst (λ (b : List ℕ). IsSetSpelling set b) (sym same) is)
 
-pub set_exact : (bytes whole rest : List ℕ) (r : Result TreeSet SetFault) → WholeRead bytes whole rest r → IfErr r (λ fault. SetFails bytes fault)
-set_exact bytes whole rest (Err fault) h = h
-set_exact bytes whole rest (Ok set) h = tt
+pub set_exact : (bytes whole rest : List ℕ) (r : Result TreeSet SetFault) → bytes ≡ whole ++ rest → WholeRead whole rest r → IfErr r (λ fault. SetFails bytes fault)
+set_exact bytes whole rest (Err fault) parts h = subst (λ (b : List ℕ). SetFails b fault) (sym parts) h
+set_exact bytes whole rest (Ok set) parts h = tt
 
 pub blob_only : (bytes : List ℕ) (why : BlobFault) (set : TreeSet) → SetFails bytes (Blob why) → IsSetSpelling set bytes → ⊥
 blob_only bytes why set h is = no_super set_magic bytes bytes [] why h is.blob (sym (append-nil bytes))
-
--- a set that stops at an entry, behind whose end nothing is left
-pub stops : (bytes whole rest : List ℕ) (fault : SetFault) → IsSuperBlob set_magic whole → bytes ≡ whole ++ rest → rest ≡ [] → length whole ≤ 1048576 → StopsAt whole fault → SetFails bytes fault
-stops bytes whole rest fault blob parts none short stop =
-    let same : whole ≡ bytes = whole_alone bytes whole rest parts none in
-    subst (λ (b : List ℕ). SetFails b fault) same (by_fault fault stop)
-  where
-    by_fault : (f : SetFault) → StopsAt whole f → SetFails whole f
-    by_fault (Blob why) s = absurd s.fails
-    by_fault TooLong s = absurd s.fails
-    by_fault (Trailing at) s = absurd s.fails
-    by_fault (BadSetKind index) s = (blob, short, s)
-    by_fault (Part index why) s = (blob, short, s)
-    by_fault OutOfMemory s = tt
 
 pub read_fault : (whole : List ℕ) (index : ℕ) (why : OpsFault) → IsSetKind (kind_at whole index) → (why ≢ fault.OutOfMemory → decoded (part_at whole index) ≡ Err why) → PartFails whole index (part_fault index why)
 read_fault whole index fault.OutOfMemory is h = tt

@@ -29,17 +29,16 @@ pub fn decode_set(alloc: Global, bytes: &[u8]) -> Result<ReqSet, SetFault>
     ensures exact { IfErr result (λ fault. SetFails bytes.now fault) }
 {
     match SuperBlob::read(bytes, SET_MAGIC) {
-        Ok(blob) => decode_whole(alloc, bytes, &blob),
+        Ok(blob) => decode_whole(alloc, &blob),
         Err(fault) => Err(SetFault::Blob(fault)),
     }
 }
 
-fn decode_whole(alloc: Global, bytes: &[u8], blob: &SuperBlob<'_>) -> Result<ReqSet, SetFault>
-    requires whole { IsSuperBlob set_magic blob.now.whole }
-    requires front { bytes.now ≡ blob.now.whole ++ blob.now.rest }
-    ensures { MatchResult result (λ set. (blob.now.rest ≡ []) × (length blob.now.whole ≤ 1048576) × HasRead blob.now.whole (count_of blob.now.whole) set) (λ fault. SetFails bytes.now fault) }
+fn decode_whole(alloc: Global, blob: &SuperBlob<'_>) -> Result<ReqSet, SetFault>
+    requires { IsSuperBlob set_magic blob.now.whole }
+    ensures { MatchResult result (λ set. (blob.now.rest ≡ []) × (length blob.now.whole ≤ 1048576) × HasRead blob.now.whole (count_of blob.now.whole) set) (λ fault. SetFails (blob.now.whole ++ blob.now.rest) fault) }
 {
-    let size = bytes.len() - blob.rest().len();
+    let size = blob.whole().len();
     if size > MOST_BYTES {
         return Err(SetFault::TooLong);
     }

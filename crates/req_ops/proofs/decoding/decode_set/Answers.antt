@@ -9,7 +9,7 @@ pub returns-in-Ok-clause-only : goal.returns-in-Ok-clause-only
 returns-in-Ok-clause-only c = λ set is. set_only _ _ _ _ set c.in-Ok.ensures.found.1 c.decode_whole.ensures is
 
 pub returns-in-Ok-clause-exact : goal.returns-in-Ok-clause-exact
-returns-in-Ok-clause-exact c = set_exact _ _ _ _ c.decode_whole.ensures
+returns-in-Ok-clause-exact c = set_exact _ _ _ _ c.in-Ok.ensures.found.1 c.decode_whole.ensures
 
 pub returns-in-Err-clause-only : goal.returns-in-Err-clause-only
 returns-in-Err-clause-only c = λ set is. absurd (blob_only _ _ set c.in-Err.ensures.first is)
