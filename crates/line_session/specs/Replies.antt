@@ -5,12 +5,6 @@ use Rattle.line_reader.specs.Lines.{with_lf}
 use Rattle.line_session.specs.declared.reply.Reply.{Reply}
 use Rattle.line_session.specs.declared.reply.Reply.TheVariants.{Whole, Broken, Unanswered}
 
--- the sink gained the text with its LF, or where it failed a front of that
-abbrev pub IsWritten : Option (List ℕ) → Option (List ℕ) → List ℕ → Reply → Type 0
-IsWritten old new text Whole = Appends old new (with_lf text)
-IsWritten old new text Broken = (count : ℕ) × Appends old new (take count (with_lf text))
-IsWritten old new text Unanswered = ⊥
-
 -- the line was answered by one reply, which was written; or it wasn't answered, and nothing was written
 abbrev pub IsReplied : (List (List ℕ) → List (List ℕ) → Type 0) → Option (List ℕ) → Option (List ℕ) → List ℕ → List (List ℕ) → List (List ℕ) → Reply → Type 0
 IsReplied Answered old new line lines replies Whole =

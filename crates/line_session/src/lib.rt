@@ -2,6 +2,7 @@
 #![tactic(auto)]
 
 mod ended;
+mod line;
 mod reply;
 mod responder;
 mod session;
@@ -9,5 +10,6 @@ mod session;
 mod tests;
 
 pub use ended::Ended;
+pub use line::write_line;
 pub use responder::Responder;
 pub use session::run_session;

@@ -4,8 +4,9 @@ ghost use Rattle.std.specs.Prelude.{◌≡◌, ◌≢◌, ◌≤◌, ℕ, List, 
 ghost use Rattle.req_tree.specs.LineText.{line_bytes};
 ghost use Rattle.gk_io.specs.Faults.{Rose};
 ghost use Rattle.gk_io.specs.Told.{IsFlushed};
-ghost use Rattle.line_session.specs.Replies.{IsReplied, IsWritten};
+ghost use Rattle.line_session.specs.Replies.{IsReplied};
 
+use crate::line::write_line;
 use crate::responder::Responder;
 use gk_io::{Failed, Sink};
 use req_tree::LineText;
@@ -44,29 +45,10 @@ pub fn reply_to<R: Responder, W: Sink>(
 {
     text.clear();
     match responder.answer(alloc, line, text) {
-        Ok(()) => write_line(text, output),
+        Ok(()) => match write_line(output, text) {
+            Ok(()) => Reply::Whole,
+            Err(Failed) => Reply::Broken,
+        },
         Err(AllocError) => Reply::Unanswered,
-    }
-}
-
-// Writes the text with an LF in one call, and flushes it.
-fn write_line<W: Sink>(text: &mut LineText, output: &mut W) -> Reply
-    requires { length (line_bytes text.old) ≤ 1000 }
-    ensures written { IsWritten (W.written output.old) (W.written output.new) (line_bytes text.old) result }
-    ensures flushed { result ≡ Reply.Whole → IsFlushed (W.flushed output.new) (W.written output.new) }
-    ensures telling { is_some (W.written output.new) ≡ is_some (W.written output.old) }
-    ensures flushed_telling { is_some (W.flushed output.new) ≡ is_some (W.flushed output.old) }
-    ensures later { W.faults output.old ≤ W.faults output.new }
-    ensures cause { result ≡ Reply.Broken → Rose (W.faults output.old) (W.faults output.new) }
-    ensures steady { result ≢ Reply.Broken → W.faults output.new ≡ W.faults output.old }
-{
-    text.push(b'\n');
-    match output.put(text.as_slice()) {
-        Ok(()) => {}
-        Err(Failed) => return Reply::Broken,
-    }
-    match output.flush() {
-        Ok(()) => Reply::Whole,
-        Err(Failed) => Reply::Broken,
     }
 }

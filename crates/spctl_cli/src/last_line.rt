@@ -1,12 +1,12 @@
 //! The line that ends the output of a run.
 
 ghost use Rattle.std.specs.Prelude.{◌≡◌, ◌≤◌, length, OnOk, OnErr, is_some};
-ghost use Rattle.req_tree.specs.LineText.{line_bytes};
 ghost use Rattle.gk_io.specs.Faults.{Rose};
 ghost use Rattle.gk_io.specs.Told.{IsFlushed, PutAppends};
 ghost use Rattle.line_reader.specs.Lines.{with_lf};
 
 use gk_io::{Failed, Sink};
+use line_session::write_line;
 use req_tree::LineText;
 
 /// Writes the text with an LF in one call, and flushes it.
@@ -22,13 +22,5 @@ pub fn write_last<W: Sink>(output: &mut W, text: &[u8]) -> Result<(), Failed>
 {
     let mut line = LineText::new();
     line.push_all(text);
-    line.push(b'\n');
-    match output.put(line.as_slice()) {
-        Ok(()) => {}
-        Err(failed) => return Err(failed),
-    }
-    match output.flush() {
-        Ok(()) => Ok(()),
-        Err(failed) => Err(failed),
-    }
+    write_line(output, &mut line)
 }

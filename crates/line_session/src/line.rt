@@ -1,0 +1,33 @@
+//! One line that goes out.
+
+ghost use Rattle.std.specs.Prelude.{◌≡◌, ◌≤◌, length, OnOk, OnErr, is_some};
+ghost use Rattle.req_tree.specs.LineText.{line_bytes};
+ghost use Rattle.gk_io.specs.Faults.{Rose};
+ghost use Rattle.gk_io.specs.Told.{IsFlushed, PutAppends};
+ghost use Rattle.line_reader.specs.Lines.{with_lf};
+
+use gk_io::{Failed, Sink};
+use req_tree::LineText;
+
+/// Writes the text with an LF in one call, and flushes it. The LF stays at the end of the text.
+pub fn write_line<W: Sink>(output: &mut W, text: &mut LineText) -> Result<(), Failed>
+    requires { length (line_bytes text.old) ≤ 1000 }
+    ensures bytes { PutAppends (W.written output.old) (W.written output.new) result
+        (with_lf (line_bytes text.old)) }
+    ensures flushed { OnOk result (IsFlushed (W.flushed output.new) (W.written output.new)) }
+    ensures telling { is_some (W.written output.new) ≡ is_some (W.written output.old) }
+    ensures flushed_telling { is_some (W.flushed output.new) ≡ is_some (W.flushed output.old) }
+    ensures later { W.faults output.old ≤ W.faults output.new }
+    ensures cause { OnErr result (Rose (W.faults output.old) (W.faults output.new)) }
+    ensures steady { OnOk result (W.faults output.new ≡ W.faults output.old) }
+{
+    text.push(b'\n');
+    match output.put(text.as_slice()) {
+        Ok(()) => {}
+        Err(failed) => return Err(failed),
+    }
+    match output.flush() {
+        Ok(()) => Ok(()),
+        Err(failed) => Err(failed),
+    }
+}
