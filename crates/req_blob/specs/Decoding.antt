@@ -9,11 +9,12 @@ use Rattle.req_blob.specs.declared.fault.OpsFault.TheVariants as fault
 use Rattle.req_blob.specs.Spelling.{requirement_magic}
 use Rattle.req_blob.specs.Reading.{◌>>=◌, place, word_at, req_at}
 
--- the blob at the front of the bytes, and what follows it
+-- what the header of a blob tells: its fault, or the blob and what follows it
 abbrev pub blob_when : Option BlobFault → List ℕ → Result (List ℕ × List ℕ) OpsFault
 blob_when None bytes = Ok (take (number_at 4 bytes) bytes, drop (number_at 4 bytes) bytes)
 blob_when (Some why) bytes = Err (fault.Blob why)
 
+-- the blob at the front of the bytes, and what follows it
 unfoldable pub blob_at : List ℕ → Result (List ℕ × List ℕ) OpsFault
 blob_at bytes = blob_when (blob_fault requirement_magic bytes) bytes
 
@@ -27,11 +28,13 @@ body_at size body = do
 unfoldable pub ended : ℕ → Tree × List ℕ → List ℕ → Result Tree OpsFault
 ended size x rest = if length x.1 == 0 then (if length rest == 0 then Ok x.0 else Err (fault.Trailing size)) else Err (fault.Trailing (place size x.1))
 
+-- the tree of a blob with a rest behind it
 unfoldable pub whole_of : List ℕ → List ℕ → Result Tree OpsFault
 whole_of whole rest =
     if nat_lt 1048576 (length whole) then Err fault.TooLong
     else (body_at (length whole) (drop 8 whole) >>= λ x. ended (length whole) x rest)
 
+-- the tree of bytes that are one blob, or the first fault
 unfoldable pub decoded : List ℕ → Result Tree OpsFault
 decoded bytes = do
   blob ← blob_at bytes

@@ -35,6 +35,7 @@ place size rest = size - length rest
 unfoldable pub word_at : ℕ → List ℕ → Result (ℕ × List ℕ) OpsFault
 word_at size bytes = if nat_lt (length bytes) 4 then Err (fault.Cut (place size bytes)) else Ok (from_be_bytes w32 (take 4 bytes), drop 4 bytes)
 
+-- a word in two's complement
 unfoldable pub signed_at : ℕ → List ℕ → Result (ℤ × List ℕ) OpsFault
 signed_at size bytes = do
   n ← word_at size bytes
@@ -57,11 +58,13 @@ unpadded_at size bytes = do
   n ← word_at size bytes
   if nat_lt (length n.1) n.0 then Err (fault.Cut (place size bytes)) else Ok (take n.0 n.1, drop n.0 n.1)
 
+-- a datum of 20 bytes
 unfoldable pub hash_at : ℕ → List ℕ → Result (List ℕ × List ℕ) OpsFault
 hash_at size bytes = do
   x ← datum_at size bytes
   if length x.0 == 20 then Ok x else Err (fault.BadHashLength (place size bytes))
 
+-- a datum that is no key of another opcode's text
 unfoldable pub key_at : ℕ → List ℕ → Result (List ℕ × List ℕ) OpsFault
 key_at size bytes = do
   x ← datum_at size bytes
@@ -71,6 +74,7 @@ key_at size bytes = do
 unfoldable pub oid_of : ℕ → List ℕ → Result (List ℕ) OpsFault
 oid_of at text = if is_oid text then Ok text else Err (fault.BadOid at)
 
+-- a datum that is an object identifier
 unfoldable pub oid_at : ℕ → List ℕ → Result (List ℕ × List ℕ) OpsFault
 oid_at size bytes = do
   x ← datum_at size bytes
@@ -88,6 +92,7 @@ comparison suffix value =
     else (if suffix == 6 then Greater value
     else (if suffix == 7 then LessEqual value else GreaterEqual value))))))
 
+-- a comparison: the text behind its suffix
 unfoldable pub comparison_at : ℕ → ℕ → List ℕ → Result (Match × List ℕ) OpsFault
 comparison_at size suffix bytes = do
   x ← datum_at size bytes
@@ -99,39 +104,46 @@ test_at size at suffix rest =
     if suffix == 0 then Ok (Exists, rest)
     else (if suffix == 14 then Ok (Absent, rest) else (if nat_lt 8 suffix then Err (fault.UnknownMatch at suffix) else comparison_at size suffix rest))
 
+-- a suffix, and the test that it begins
 unfoldable pub match_at : ℕ → List ℕ → Result (Match × List ℕ) OpsFault
 match_at size bytes = do
   n ← word_at size bytes
   test_at size (place size bytes) n.0 n.1
 
+-- operands of an identifier: the text
 unfoldable pub ident_at : ℕ → List ℕ → Result (Tree × List ℕ) OpsFault
 ident_at size bytes = do
   value ← datum_at size bytes
   Ok (t.ident value.0, value.1)
 
+-- operands of a hash in the chain: slot and hash
 unfoldable pub anchor_hash_at : ℕ → List ℕ → Result (Tree × List ℕ) OpsFault
 anchor_hash_at size bytes = do
   slot ← signed_at size bytes
   hash ← hash_at size slot.1
   Ok (t.anchor_hash slot.0 hash.0, hash.1)
 
+-- operands of the old test of an Info key: key and text
 unfoldable pub legacy_info_at : ℕ → List ℕ → Result (Tree × List ℕ) OpsFault
 legacy_info_at size bytes = do
   key ← datum_at size bytes
   value ← datum_at size key.1
   Ok (t.legacy_info key.0 value.0, value.1)
 
+-- operands of a cdhash: the hash
 unfoldable pub cd_hash_at : ℕ → List ℕ → Result (Tree × List ℕ) OpsFault
 cd_hash_at size bytes = do
   hash ← hash_at size bytes
   Ok (t.cd_hash hash.0, hash.1)
 
+-- operands of an Info key: key and test
 unfoldable pub info_field_at : ℕ → List ℕ → Result (Tree × List ℕ) OpsFault
 info_field_at size bytes = do
   key ← datum_at size bytes
   test ← match_at size key.1
   Ok (t.info_field key.0 test.0, test.1)
 
+-- operands of a certificate's field: slot, key and test
 unfoldable pub cert_field_at : ℕ → List ℕ → Result (Tree × List ℕ) OpsFault
 cert_field_at size bytes = do
   slot ← signed_at size bytes
@@ -139,11 +151,13 @@ cert_field_at size bytes = do
   test ← match_at size key.1
   Ok (t.cert_field slot.0 key.0 test.0, test.1)
 
+-- operands of a trusted certificate: the slot
 unfoldable pub trusted_cert_at : ℕ → List ℕ → Result (Tree × List ℕ) OpsFault
 trusted_cert_at size bytes = do
   slot ← signed_at size bytes
   Ok (t.trusted_cert slot.0, slot.1)
 
+-- operands of a certificate's extension: slot, object identifier and test
 unfoldable pub cert_oid_at : ℕ → List ℕ → Result (Tree × List ℕ) OpsFault
 cert_oid_at size bytes = do
   slot ← signed_at size bytes
@@ -151,12 +165,14 @@ cert_oid_at size bytes = do
   test ← match_at size oid.1
   Ok (t.cert_oid slot.0 oid.0 test.0, test.1)
 
+-- operands of an entitlement: key and test
 unfoldable pub entitlement_field_at : ℕ → List ℕ → Result (Tree × List ℕ) OpsFault
 entitlement_field_at size bytes = do
   key ← datum_at size bytes
   test ← match_at size key.1
   Ok (t.entitlement_field key.0 test.0, test.1)
 
+-- operands of a certificate's policy: slot, object identifier and test
 unfoldable pub cert_policy_at : ℕ → List ℕ → Result (Tree × List ℕ) OpsFault
 cert_policy_at size bytes = do
   slot ← signed_at size bytes
@@ -164,16 +180,19 @@ cert_policy_at size bytes = do
   test ← match_at size oid.1
   Ok (t.cert_policy slot.0 oid.0 test.0, test.1)
 
+-- operands of an anchor by name: the name
 unfoldable pub named_anchor_at : ℕ → List ℕ → Result (Tree × List ℕ) OpsFault
 named_anchor_at size bytes = do
   name ← datum_at size bytes
   Ok (t.named_anchor name.0, name.1)
 
+-- operands of code by name: the name
 unfoldable pub named_code_at : ℕ → List ℕ → Result (Tree × List ℕ) OpsFault
 named_code_at size bytes = do
   name ← datum_at size bytes
   Ok (t.named_code name.0, name.1)
 
+-- operands of a platform: its number
 unfoldable pub platform_at : ℕ → List ℕ → Result (Tree × List ℕ) OpsFault
 platform_at size bytes = do
   number ← signed_at size bytes
@@ -202,6 +221,7 @@ leaf_at size l.Platform bytes = platform_at size bytes
 leaf_at size l.Notarized bytes = Ok (t.notarized, bytes)
 leaf_at size l.LegacyDevId bytes = Ok (t.legacy_dev_id, bytes)
 
+-- behind an unknown opcode that is false: the bytes that it counts
 unfoldable pub skip_false_at : ℕ → ℕ → List ℕ → Result (Tree × List ℕ) OpsFault
 skip_false_at size op bytes = do
   skipped ← unpadded_at size bytes
@@ -211,23 +231,27 @@ skip_false_at size op bytes = do
 abbrev pub Reader : Type 0
 Reader = List ℕ → Result (Tree × List ℕ) OpsFault
 
+-- two expressions that both have to hold
 unfoldable pub both_at : Reader → Reader
 both_at next bytes = do
   left ← next bytes
   right ← next left.1
   Ok (t.both left.0 right.0, right.1)
 
+-- two expressions of which one has to hold
 unfoldable pub either_at : Reader → Reader
 either_at next bytes = do
   left ← next bytes
   right ← next left.1
   Ok (t.either left.0 right.0, right.1)
 
+-- an expression that may not hold
 unfoldable pub negate_at : Reader → Reader
 negate_at next bytes = do
   inner ← next bytes
   Ok (t.negate inner.0, inner.1)
 
+-- behind an unknown opcode that is passed over: the bytes that it counts, and an expression
 unfoldable pub skip_next_at : Reader → ℕ → ℕ → Reader
 skip_next_at next size op bytes = do
   skipped ← unpadded_at size bytes

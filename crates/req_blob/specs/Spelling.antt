@@ -18,9 +18,11 @@ use Rattle.req_blob.specs.Words.{signed_word, datum, unpadded, match_text}
 abbrev pub IsText : List ℕ → Type 0
 IsText bytes = length bytes < 2 ^ 32
 
+-- a number of 32 bits with a sign: a slot of a chain, or a platform
 abbrev pub IsSlot : ℤ → Type 0
 IsSlot number = FitsSigned w32 number
 
+-- a SHA-1 hash has 20 bytes
 abbrev pub IsHash : List ℕ → Type 0
 IsHash bytes = length bytes ≡ 20
 
@@ -28,12 +30,15 @@ IsHash bytes = length bytes ≡ 20
 abbrev pub is_reserved : List ℕ → Bool
 is_reserved key = starts_with ◌==◌ key (codes "field.") || starts_with ◌==◌ key (codes "policy.") || starts_with ◌==◌ key (codes "timestamp.")
 
+-- the key of a certificate's field: a text that begins as no other opcode's does
 abbrev pub IsFieldKey : List ℕ → Type 0
 IsFieldKey key = IsText key × (is_reserved key ≡ false)
 
+-- the bytes of an object identifier, of a length that a word holds
 abbrev pub IsOidDatum : List ℕ → Type 0
 IsOidDatum bytes = IsText bytes × IsOidBytes bytes
 
+-- a test whose text, where it has one, is of a length that a word holds
 abbrev pub IsTest : Match → Type 0
 IsTest Exists = Unit {0}
 IsTest (Equal value) = IsText value
@@ -93,6 +98,7 @@ Spells t.legacy_dev_id bytes = Marked 23 [] bytes
 Spells (t.skip_false op skipped) bytes = IsSkipFalse op × IsText skipped × (bytes ≡ word op ++ unpadded skipped)
 Spells (t.skip_next op skipped inner) bytes = (a : List ℕ) × Spells inner a × IsSkipNext op × IsText skipped × (bytes ≡ word op ++ (unpadded skipped ++ a))
 
+-- CSMAGIC_REQUIREMENT of cs_blobs.h
 abbrev pub requirement_magic : ℕ
 requirement_magic = 0xfade0c00
 

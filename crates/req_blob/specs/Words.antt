@@ -14,6 +14,7 @@ signed_word number = word (cast_unsigned w32 number)
 abbrev pub padding : ℕ → ℕ
 padding n = (4 - n % 4) % 4
 
+-- zeros, as many as a number says
 abbrev pub zeros : ℕ → List ℕ
 zeros n = replicate n 0
 

@@ -12,6 +12,7 @@ use Rattle.req_ops.specs.declared.fault.SetFault.TheVariants.{Blob, TooLong, Tra
 use Rattle.req_blob.specs.Spelling.{IsSpelling}
 use Rattle.req_blob.specs.Decoding.{decoded}
 
+-- CSMAGIC_REQUIREMENTS of cs_blobs.h
 abbrev pub set_magic : ℕ
 set_magic = 0xfade0c01
 
