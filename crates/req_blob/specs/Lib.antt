@@ -4,3 +4,4 @@ pub mod Spelling
 pub mod Reading
 pub mod Decoding
 pub mod Encoding
+pub mod FaultText

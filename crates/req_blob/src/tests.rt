@@ -2,7 +2,7 @@
 
 use crate::{OpsFault, decode, encode, is_encodable, reread, respell};
 use cs_blob::BlobFault;
-use req_tree::Req;
+use req_tree::{LineText, Req};
 use std::alloc::Global;
 use std::test::Fail;
 
@@ -219,4 +219,33 @@ fn a_blob_has_at_most_1048576_bytes(rt: HostRuntime) -> Result<(), Fail> {
         Some(OpsFault::TooLong)
     );
     Ok(())
+}
+
+// As lines of the program have them.
+#[rattlefmt::skip]
+const TEXTS: [(OpsFault, &[u8]); 15] = [
+    (OpsFault::Blob(BlobFault::BadMagic), b"1 Blob 2 BadMagic"),
+    (OpsFault::BadKind, b"2 BadKind"),
+    (OpsFault::UnknownOp { at: 12, op: 0xff }, b"3 UnknownOp at=12 op=0x000000ff"),
+    (OpsFault::UnknownOp { at: 4_294_967_295, op: 0xabcd_ef09 }, b"3 UnknownOp at=4294967295 op=0xabcdef09"),
+    (OpsFault::OutOfScopeOp { at: 12 }, b"4 OutOfScopeOp at=12"),
+    (OpsFault::UnknownMatch { at: 24, suffix: 9 }, b"5 UnknownMatch at=24 suffix=9"),
+    (OpsFault::Cut { at: 16 }, b"6 Cut at=16"),
+    (OpsFault::BadPadding { at: 16 }, b"7 BadPadding at=16"),
+    (OpsFault::BadHashLength { at: 16 }, b"8 BadHashLength at=16"),
+    (OpsFault::TooDeep { at: 1036 }, b"9 TooDeep at=1036"),
+    (OpsFault::Trailing { at: 16 }, b"10 Trailing at=16"),
+    (OpsFault::BadOid { at: 20 }, b"11 BadOid at=20"),
+    (OpsFault::TooLong, b"12 TooLong"),
+    (OpsFault::BadKey { at: 20 }, b"13 BadKey at=20"),
+    (OpsFault::OutOfMemory, b""),
+];
+
+#[test]
+fn a_fault_tells_its_number_and_fields(rt: HostRuntime) {
+    for (fault, want) in TEXTS {
+        let mut line = LineText::new();
+        fault.line_into(&mut line);
+        assert_eq!(rt; line.as_slice(), want);
+    }
 }

@@ -4,7 +4,7 @@ use crate::{
     OpsFault, SetFault, decode_set, encode_set, is_encodable_set, reread_set, respell_set,
 };
 use cs_blob::BlobFault;
-use req_tree::{Bytes, Req, ReqSet};
+use req_tree::{Bytes, LineText, Req, ReqSet};
 use std::alloc::{AllocError, Global};
 use std::test::Fail;
 
@@ -178,4 +178,24 @@ fn a_long_set_is_not_written(rt: HostRuntime) -> Result<(), Fail> {
     assert_eq!(rt; one, None);
     assert_eq!(rt; both, Some(OpsFault::TooLong));
     Ok(())
+}
+
+// As lines of the program have them.
+#[rattlefmt::skip]
+const TEXTS: [(SetFault, &[u8]); 6] = [
+    (SetFault::Blob(BlobFault::PartOverlap { index: 1 }), b"1 Blob 6 PartOverlap index=1"),
+    (SetFault::TooLong, b"2 TooLong"),
+    (SetFault::Trailing { at: 12 }, b"3 Trailing at=12"),
+    (SetFault::BadSetKind { index: 0 }, b"4 BadSetKind index=0"),
+    (SetFault::Part { index: 1, fault: OpsFault::UnknownOp { at: 12, op: 0xff } }, b"5 Part index=1 3 UnknownOp at=12 op=0x000000ff"),
+    (SetFault::OutOfMemory, b""),
+];
+
+#[test]
+fn a_fault_tells_its_number_and_fields(rt: HostRuntime) {
+    for (fault, want) in TEXTS {
+        let mut line = LineText::new();
+        fault.line_into(&mut line);
+        assert_eq!(rt; line.as_slice(), want);
+    }
 }
