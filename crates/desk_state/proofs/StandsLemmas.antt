@@ -11,7 +11,10 @@ use Rattle.std.proofs.lemmas.List.{length-map}
 use Rattle.req_tree.specs.Subject.{Subject}
 use Rattle.req_tree.specs.Facts.{no_facts}
 use Rattle.policy_model.specs.Rules.{Kind}
-use Rattle.policy_model.specs.Edits.{Tables, Receipt, Answer, Edit, Effect, does, does_at, at_new, refusal, kept}
+use Rattle.policy_model.specs.Contents.{Edit}
+use Rattle.policy_model.specs.Tables.{Tables, Receipt, Answer, Effect}
+use Rattle.policy_model.specs.Refusals.{refusal}
+use Rattle.policy_model.specs.Edits.{does, does_at, at_new, kept}
 use Rattle.policy_model.specs.Outcomes.{Ask, Verdict, verdict, verdict_on, verdict_by, outcome_by}
 use Rattle.policy_model.specs.History.{Event, Opening, tables_step, now_step, tables_of, now_of, ask_answer, HasOwnIds}
 use Rattle.policy_model.proofs.HistoryLaws.{tables_of-more, now_of-more}

@@ -1,7 +1,7 @@
 -- The program's answers to edits as those of the definitions.
 use Rattle.std.specs.Prelude.{ℕ, List, [], Option, Some, None, Result, Ok, Err, if◌then◌else◌, ◌≡◌}
-use Rattle.policy_model.specs.Edits as model
-use Rattle.policy_model.specs.Edits.{done, repeated, key_reused, table_full, Effect, Tables}
+use Rattle.policy_model.specs.Tables as model
+use Rattle.policy_model.specs.Tables.{done, repeated, key_reused, table_full, Effect, Tables}
 use Rattle.policy_model.specs.Replies.{answer_text}
 use Rattle.desk_state.specs.declared.answer.Answer as code
 use Rattle.desk_state.specs.declared.fault.EditFault as fault

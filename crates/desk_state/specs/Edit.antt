@@ -1,8 +1,7 @@
 -- The program's edits as those of the definitions.
 use Rattle.authority_table.specs.Kind.{kind_of}
 use Rattle.authority_table.specs.Label.{label_bytes}
-use Rattle.policy_model.specs.Texts.{NewRow, Content, add}
-use Rattle.policy_model.specs.Edits.{Edit}
+use Rattle.policy_model.specs.Contents.{NewRow, Content, add, Edit}
 use Rattle.desk_state.specs.declared.new_rule.NewRule.{NewRule}
 use Rattle.desk_state.specs.declared.edit.Content as code_content
 use Rattle.desk_state.specs.declared.edit.Content.TheVariants.{Add}

@@ -1,6 +1,6 @@
 -- The program's receipts as those of the definitions.
 use Rattle.std.specs.Prelude.{List, map}
-use Rattle.policy_model.specs.Edits.{Receipt}
+use Rattle.policy_model.specs.Tables.{Receipt}
 use Rattle.desk_state.specs.declared.receipt.Receipt as code
 use Rattle.desk_state.specs.EditKey.{key_bytes}
 

@@ -2,7 +2,7 @@
 use Rattle.std.specs.Prelude.{◌≡◌, ℕ, List, [], ◌∷◌, ◌++◌}
 use Rattle.req_tree.specs.Facts.{no_facts}
 use Rattle.authority_table.specs.Rule.{row_of, rows_of}
-use Rattle.policy_model.specs.Edits.{Tables}
+use Rattle.policy_model.specs.Tables.{Tables}
 use Rattle.policy_model.specs.History.{Event, Opening, tables_of, now_of}
 use Rattle.authority_table.specs.declared.rule.Rule.{Rule}
 use Rattle.desk_state.specs.declared.receipt.Receipt.{Receipt}

@@ -35,8 +35,9 @@ impl Desk {
     ghost use Rattle.policy_model.specs.History as event;
     ghost use Rattle.policy_model.specs.Rules.{Kind};
     ghost use Rattle.policy_model.specs.Outcomes as policy;
-    ghost use Rattle.policy_model.specs.Texts.{add};
-    ghost use Rattle.policy_model.specs.Edits.{does, at_new, refusal};
+    ghost use Rattle.policy_model.specs.Contents.{add};
+    ghost use Rattle.policy_model.specs.Refusals.{refusal};
+    ghost use Rattle.policy_model.specs.Edits.{does, at_new};
     ghost use Rattle.policy_model.specs.Replies.{origin_on, rules};
     ghost use Rattle.authority_table.specs.Label.{label_bytes};
     ghost use Rattle.authority_table.specs.Found.{governing_row, latent_row};

@@ -27,7 +27,7 @@ pub struct NewRule {
 
 impl NewRule {
     ghost use Rattle.authority_table.specs.Rule.{row_of};
-    ghost use Rattle.policy_model.specs.Edits as model;
+    ghost use Rattle.policy_model.specs.Changes as model;
     ghost use Rattle.desk_state.specs.Edit.{new_row};
 
     /// The rule of this number; it shares the requirement's tree.

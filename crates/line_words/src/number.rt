@@ -3,7 +3,8 @@
 ghost use Rattle.std.specs.Prelude.{◌≡◌, ◌≤◌, length, Some, None, if◌then◌else◌};
 ghost use Rattle.std.specs.List.{list_all};
 ghost use Rattle.std.specs.Char.{is_ascii_digit};
-ghost use Rattle.policy_model.specs.Words.{number_word, digits_value};
+ghost use Rattle.req_tree.specs.NumericOrder.{number_of};
+ghost use Rattle.policy_model.specs.Words.{number_word};
 
 /// The number of 1 to `most` digits, where it is at most the greatest.
 pub fn read_number(word: &[u8], most: usize, greatest: u64) -> Option<u64>
@@ -24,7 +25,7 @@ pub fn read_number(word: &[u8], most: usize, greatest: u64) -> Option<u64>
 fn read_digits(word: &[u8]) -> Option<u64>
     requires { length word.now ≤ 19 }
     ensures { result
-        ≡ (if list_all is_ascii_digit word.now then Some (digits_value word.now) else None) }
+        ≡ (if list_all is_ascii_digit word.now then Some (number_of word.now) else None) }
 {
     let mut number = 0;
     for digit in word {

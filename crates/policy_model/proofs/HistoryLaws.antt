@@ -1,6 +1,6 @@
 -- A history with one more event.
 use Rattle.std.proofs.Common.{◌≡◌, ℕ, List, [], ◌∷◌, ◌++◌, refl}
-use Rattle.policy_model.specs.Edits.{Tables}
+use Rattle.policy_model.specs.Tables.{Tables}
 use Rattle.policy_model.specs.History.{Event, Opening, tables_step, tables_after, tables_of, now_step, now_after, now_of}
 
 tables_after-more : (h : List Event) (e : Event) (t : Tables) → tables_after (h ++ e ∷ []) t ≡ tables_step e (tables_after h t)

@@ -8,8 +8,11 @@ use Rattle.std.proofs.lemmas.List.Quantifiers.{all_pairs_push}
 use Rattle.std.proofs.lemmas.List.Kept.{AllPairs-filter}
 use Rattle.std.proofs.lemmas.List.Elements.{All-filter, All-push, All-map, All-contains, All-nil}
 use Rattle.policy_model.specs.Rules.{Row, Rank, rank_of, Before, IsFirst, HasNone, IsFirstOf}
-use Rattle.policy_model.specs.Texts.{Content, add, remove, enable, disable, expire, switch}
-use Rattle.policy_model.specs.Edits.{Edit, Tables, Receipt, Answer, selects, change, with_count, with_expiry, row_of, rows_after, does, does_at, at_new, refusal, kept}
+use Rattle.policy_model.specs.Contents.{Content, add, remove, enable, disable, expire, switch, Edit}
+use Rattle.policy_model.specs.Tables.{Tables, Receipt, Answer}
+use Rattle.policy_model.specs.Changes.{selects, change, with_count, with_expiry, row_of, rows_after}
+use Rattle.policy_model.specs.Refusals.{refusal}
+use Rattle.policy_model.specs.Edits.{does, does_at, at_new, kept}
 use Rattle.policy_model.specs.History.{Event, tick, ask, offer, edit, edit_failed, edit_starved, look, tables_step, tables_after, HasOwnIds, empty_tables}
 
 abbrev Rising : List Row → Type 0

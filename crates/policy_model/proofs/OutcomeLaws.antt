@@ -5,7 +5,7 @@ use Rattle.req_tree.specs.Subject.{Subject}
 use Rattle.req_tree.specs.Facts.{Facts}
 use Rattle.policy_model.specs.Rules.{Row, Kind, Meets, Governs, IsLatent, first, meets}
 use Rattle.policy_model.specs.Outcomes.{outcome, outcome_by}
-use Rattle.policy_model.specs.Edits.{Tables}
+use Rattle.policy_model.specs.Tables.{Tables}
 use Rattle.policy_model.specs.History.{HasOwnIds}
 use Rattle.policy_model.specs.Laws.{OutcomeIsRight, GovernsOnce, LatentOnce, OutcomeIsOne}
 use Rattle.policy_model.proofs.RuleLaws.{first_meets}

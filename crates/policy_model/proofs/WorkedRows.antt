@@ -6,8 +6,10 @@ use Rattle.req_tree.specs.Tree.{always}
 use Rattle.req_tree.specs.Facts.{no_facts}
 use Rattle.policy_model.specs.Rules.{execute, Row}
 use Rattle.policy_model.specs.Outcomes.{Ask}
-use Rattle.policy_model.specs.Texts.{places, add_front, content_text, add, remove, disable, enable, switch, by_id, by_label, priority_text}
-use Rattle.policy_model.specs.Edits.{Edit, Tables, does}
+use Rattle.policy_model.specs.Contents.{add, remove, disable, enable, switch, by_id, by_label, Edit}
+use Rattle.policy_model.specs.Texts.{places, add_front, content_text, priority_text}
+use Rattle.policy_model.specs.Tables.{Tables}
+use Rattle.policy_model.specs.Edits.{does}
 use Rattle.policy_model.specs.History.{Event, tick, edit, fresh, edit_answer, ask_answer}
 use Rattle.policy_model.specs.Lines.{request_of, not_built}
 use Rattle.policy_model.specs.Replies.{verdict_text, answer_text, origin_on}

@@ -3,7 +3,9 @@ use Rattle.std.specs.Prelude.{ℕ, ◌<◌, ◌≤◌, max, List, [], ◌∷◌,
 use Rattle.req_tree.specs.Subject.{Subject}
 use Rattle.req_tree.specs.Facts.{Facts}
 use Rattle.policy_model.specs.Rules.{Row, Kind}
-use Rattle.policy_model.specs.Edits.{Edit, Tables, Answer, does}
+use Rattle.policy_model.specs.Contents.{Edit}
+use Rattle.policy_model.specs.Tables.{Tables, Answer}
+use Rattle.policy_model.specs.Edits.{does}
 use Rattle.policy_model.specs.Outcomes.{Outcome, Ask, Verdict, verdict}
 
 -- an outcome that is kept for a kind and a subject

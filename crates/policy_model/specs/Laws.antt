@@ -1,10 +1,12 @@
 -- What follows from the definitions alone; each is proved on a function of src/laws.rt.
-use Rattle.std.specs.Prelude.{◌≡◌, ℕ, List, Option}
+use Rattle.std.specs.Prelude.{◌≡◌, ◌≢◌, ℕ, ◌*◌, ◌-◌, ◌^◌, ◌<◌, ◌≤◌, List, [], ◌∷◌, ◌++◌, All, length, Option}
 use Rattle.req_tree.specs.Subject.{Subject}
 use Rattle.req_tree.specs.Facts.{Facts}
+use Rattle.req_tree.specs.NumericOrder.{number_of}
 use Rattle.policy_model.specs.Rules.{Row, Kind, Governs, IsLatent}
 use Rattle.policy_model.specs.Outcomes.{Outcome, outcome, outcome_by}
-use Rattle.policy_model.specs.Edits.{Tables}
+use Rattle.policy_model.specs.Texts.{places}
+use Rattle.policy_model.specs.Tables.{Tables}
 use Rattle.policy_model.specs.History.{Event, Opening, tables_of, HasOwnIds}
 
 -- an outcome is that of a rule that governs, or of none and a latent one
@@ -34,3 +36,19 @@ LatentOnce = (t : Tables) → HasOwnIds t → (kind : Kind) (subject : Subject) 
 abbrev pub OutcomeIsOne : Type 0
 OutcomeIsOne = (t : Tables) → HasOwnIds t → (kind : Kind) (subject : Subject) (facts : Facts) (m : ℕ) (o : Outcome) →
     IsOutcome t.rows kind subject facts m o → o ≡ outcome t.rows kind subject facts m
+
+-- the digits stand for a part in millionths: they are at most six bytes of 0 to 9, with zeros behind them up to six they write that number,
+-- and the last of them isn't 0
+pub record IsFraction (part : ℕ) (digits : List ℕ) : Type 0 where
+  pub each : All (λ d. (48 ≤ d) × (d ≤ 57)) digits
+  pub most : length digits ≤ 6
+  pub value : number_of digits * 10 ^ (6 - length digits) ≡ part
+  pub shortest : (front : List ℕ) → digits ≢ front ++ 48 ∷ []
+
+-- the places of a part are digits that stand for it
+abbrev pub PlacesStand : Type 0
+PlacesStand = (part : ℕ) → part < 1000000 → IsFraction part (places 6 part)
+
+-- and no others do
+abbrev pub NoOthersStand : Type 0
+NoOthersStand = (part : ℕ) (digits : List ℕ) → IsFraction part digits → digits ≡ places 6 part

@@ -1,6 +1,10 @@
 pub mod Rules
 pub mod Outcomes
+pub mod Contents
 pub mod Texts
+pub mod Tables
+pub mod Changes
+pub mod Refusals
 pub mod Edits
 pub mod History
 pub mod Words

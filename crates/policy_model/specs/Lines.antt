@@ -2,8 +2,7 @@
 use Rattle.std.specs.Prelude.{ℕ, List, [], ◌∷◌, ◌++◌, length, take, drop, true, false, ◌&&◌, nat_le, Option, Some, None, option_map, option_and_then, unwrap_or, if◌then◌else◌, codes, bytes_eq}
 use Rattle.req_tree.specs.Tree.{Tree, never, always, cd_hash}
 use Rattle.policy_model.specs.Outcomes.{Ask}
-use Rattle.policy_model.specs.Texts.{add}
-use Rattle.policy_model.specs.Edits.{Edit}
+use Rattle.policy_model.specs.Contents.{add, Edit}
 use Rattle.policy_model.specs.Words.{words, spaced, moment_word, expiry_word, kind_word, allow_word, priority_word, dash_word, key_word, hash_word, identifier_word, platform_word}
 
 -- what a line asks for

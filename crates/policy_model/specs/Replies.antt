@@ -3,7 +3,7 @@ use Rattle.std.specs.Prelude.{ℕ, List, ◌++◌, Bool, Option, Some, None, if�
 use Rattle.req_tree.specs.Subject.{Subject}
 use Rattle.req_tree.specs.WordText.{word_text}
 use Rattle.policy_model.specs.Outcomes.{Verdict}
-use Rattle.policy_model.specs.Edits.{Answer, done, repeated, key_reused, no_rule, table_full, receipts_full, disable_full}
+use Rattle.policy_model.specs.Tables.{Answer, done, repeated, key_reused, no_rule, table_full, receipts_full, disable_full}
 
 -- where a verdict comes from: the rules, a kept outcome, or the want of a signature
 pub data Origin : Type 0 where

@@ -1,8 +1,8 @@
 -- The canonical words of rules and edits. This project's own, after the options of spctl(8).
 use Rattle.std.specs.Prelude.{ℕ, zero, suc, ◌+◌, ◌/◌, ◌%◌, ◌^◌, ℤ, pos, int_lt, unsigned_abs, List, [], ◌∷◌, ◌++◌, Bool, Option, Some, None, if◌then◌else◌, codes, decimal, ◌==◌}
-use Rattle.req_tree.specs.Tree.{Tree}
 use Rattle.req_tree.specs.WordText.{word_text}
 use Rattle.policy_model.specs.Rules.{Kind, execute, install, document}
+use Rattle.policy_model.specs.Contents.{NewRow, Which, by_id, by_label, Selector, Content, add, remove, enable, disable, expire, switch}
 
 -- the word for a kind
 abbrev pub kind_text : Kind → List ℕ
@@ -19,7 +19,7 @@ abbrev pub expiry_text : Option ℕ → List ℕ
 expiry_text None = codes "never"
 expiry_text (Some m) = decimal m
 
--- the decimal places of a part that is below 10 ^ n, from the highest on, until nothing is left
+-- the decimal places of a part that is below 10 ^ n, from the highest on, until nothing is left; for millionths Laws.antt says it without a step
 unfoldable pub places : ℕ → ℕ → List ℕ
 places zero part = []
 places (suc n) part = if part == 0 then [] else (48 + part / 10 ^ n) ∷ places n (part % 10 ^ n)
@@ -37,37 +37,6 @@ priority_text p =
 abbrev pub flags_text : Bool → Bool → List ℕ
 flags_text is_default inhibit =
     if is_default then (if inhibit then codes "default+inhibit" else codes "default") else if inhibit then codes "inhibit" else codes "-"
-
--- the rule that an edit adds; its text is what was given for its tree
-pub record NewRow : Type 0 where
-  pub kind : Kind
-  pub allow : Bool
-  pub priority : ℤ
-  pub expires : Option ℕ
-  pub label : List ℕ
-  pub is_default : Bool
-  pub inhibit : Bool
-  pub text : List ℕ
-  pub tree : Tree
-
--- an id or a label
-pub data Which : Type 0 where
-  by_id : ℕ → Which
-  by_label : List ℕ → Which
-
--- the rules with an id or a label, in one kind or in any
-pub record Selector : Type 0 where
-  pub which : Which
-  pub kind : Option Kind
-
--- what an edit asks for
-pub data Content : Type 0 where
-  add : NewRow → Content
-  remove : Selector → Content
-  enable : Selector → Content
-  disable : Selector → Content
-  expire : Selector → Option ℕ → Content
-  switch : Bool → Content
 
 -- the two words of an id or a label
 abbrev pub which_text : Which → List ℕ

@@ -1,9 +1,10 @@
 -- The words of a line, and what each stands for. This project's own.
-use Rattle.std.specs.Prelude.{ℕ, ◌+◌, ◌-◌, ◌*◌, ℤ, pos, neg_ℤ, List, [], ◌∷◌, length, fold, Bool, true, false, ◌&&◌, ◌||◌, not, ◌==◌, nat_le, Option, Some, None, option_map, if◌then◌else◌, codes, bytes_eq}
+use Rattle.std.specs.Prelude.{ℕ, ◌*◌, ℤ, pos, neg_ℤ, List, [], ◌∷◌, length, Bool, true, false, ◌&&◌, ◌||◌, not, ◌==◌, nat_le, Option, Some, None, option_map, if◌then◌else◌, codes, bytes_eq}
 use Rattle.std.specs.List.{slice_split, join_with_byte, list_all}
 use Rattle.std.specs.Char.{is_ascii_digit}
 use Rattle.std.specs.Result.{result_ok}
 use Rattle.hex.specs.Hex.{decode_sized}
+use Rattle.req_tree.specs.NumericOrder.{number_of}
 use Rattle.req_tree.specs.WordText.{is_plain}
 use Rattle.policy_model.specs.Rules.{Kind, execute, install, document}
 
@@ -15,15 +16,11 @@ words line = slice_split (λ b. b == 32) line
 abbrev pub spaced : List (List ℕ) → List ℕ
 spaced pieces = join_with_byte 32 pieces
 
--- the number that decimal digits write
-abbrev pub digits_value : List ℕ → ℕ
-digits_value digits = fold (λ n d. n * 10 + (d - 48)) 0 digits
-
 -- 1 to most digits of a number that is at most the greatest
 abbrev pub number_word : ℕ → ℕ → List ℕ → Option ℕ
 number_word most greatest word =
-    if nat_le 1 (length word) && nat_le (length word) most && list_all is_ascii_digit word && nat_le (digits_value word) greatest
-    then Some (digits_value word) else None
+    if nat_le 1 (length word) && nat_le (length word) most && list_all is_ascii_digit word && nat_le (number_of word) greatest
+    then Some (number_of word) else None
 
 -- seconds up to the end of the year 9999
 abbrev pub moment_word : List ℕ → Option ℕ

@@ -2,7 +2,7 @@
 use Rattle.std.proofs.Common.{ℕ, ℤ, List, Bool, false, Option}
 use Rattle.policy_model.specs.Rules.{Kind}
 use Rattle.policy_model.specs.Words.{kind_word, allow_word}
-use Rattle.policy_model.specs.Texts.{add}
+use Rattle.policy_model.specs.Contents.{add}
 use Rattle.policy_model.specs.Lines.{Request, edit, word, requirement_rest}
 use Rattle.spctl_cli.specs.AddFront.{terms_words}
 
