@@ -29,6 +29,7 @@ pub record Stream : Type 0 where
   pub lines : ℕ
   pub bytes : ℕ
 
+-- what a reader has pending, and then what its source has left
 abbrev pub stream : LineReader → Option (List ℕ) → Stream
 stream r left = record { unread = prepend_known (pending r) left; lines = r.lines; bytes = r.bytes }
 

@@ -7,6 +7,7 @@ use Rattle.desk_state.specs.Edit.{edit_of}
 use Rattle.spctl_cli.specs.declared.request.Request as code
 use Rattle.spctl_cli.specs.declared.request.Request.TheVariants.{Tick, Assess, Edit}
 
+-- a request of the program as one of the definitions
 abbrev pub request_view : code.Request → Request
 request_view (Tick at) = tick at
 request_view (Assess a) = assess (ask_of a)
