@@ -2,6 +2,7 @@
 
 use gk_io::Sink;
 use spctl_cli::Status;
+use std::env::Env;
 
 const HELP: &[u8] = b"\
 gatekeeper decides which code may be executed, installed or opened.
@@ -17,11 +18,22 @@ gatekeeper(1) tells the lines and their answers.
 
 const VERSION: &[u8] = b"gatekeeper 0.1.0\n";
 
-/// What the first word asks to be shown.
-pub fn text_for(words: &[&str]) -> Option<&'static [u8]> {
-    match *words.first()? {
-        "--help" | "-h" => Some(HELP),
-        "--version" | "-V" => Some(VERSION),
+/// More bytes than a word has that asks for a text.
+const ROOM: usize = 16;
+
+/// What the first word behind the program's name asks to be shown, whatever follows it.
+pub fn asked<R: Env>(rt: &R) -> Option<&'static [u8]> {
+    let mut room = [0; ROOM];
+    match rt.arg(1, &mut room) {
+        Ok(count) => text_for(&room[..count]),
+        Err(_) => None,
+    }
+}
+
+fn text_for(word: &[u8]) -> Option<&'static [u8]> {
+    match word {
+        b"--help" | b"-h" => Some(HELP),
+        b"--version" | b"-V" => Some(VERSION),
         _ => None,
     }
 }

@@ -6,16 +6,23 @@ mod help;
 use gk_io::{StdSink, StdSource};
 use spctl_cli::{Status, run};
 use std::alloc::AllocError;
-use std::env::{self, Args};
+use std::env::{self, Args, Env};
 use std::io::{self, ErrorKind, Input, Print};
 use std::process::ExitCode;
 
 fn main(rt: HostRuntime) -> ExitCode {
-    let status = match env::args(&rt) {
-        Ok(args) => by_args(&rt, args).unwrap_or(Status::OutOfMemory),
-        Err(error) => by_no_words(&rt, error.kind()),
+    let status = match help::asked(&rt) {
+        Some(text) => help::show(text, &mut StdSink::new(io::writer(&rt))),
+        None => by_arguments(&rt),
     };
     ExitCode::from(status.code())
+}
+
+fn by_arguments<R: Env + Input + Print + AllocGlobal>(rt: &R) -> Status {
+    match env::args(rt) {
+        Ok(args) => by_args(rt, args).unwrap_or(Status::OutOfMemory),
+        Err(error) => by_no_words(rt, error.kind()),
+    }
 }
 
 /// The arguments, of which the first is the program's name.
@@ -43,8 +50,5 @@ fn by_no_words<R: Input + Print + AllocGlobal>(rt: &R, why: ErrorKind) -> Status
 fn by_words<R: Input + Print + AllocGlobal>(rt: &R, words: &[&str]) -> Status {
     let mut input = StdSource::new(rt.reader());
     let mut output = StdSink::new(io::writer(rt));
-    match help::text_for(words) {
-        Some(text) => help::show(text, &mut output),
-        None => run(rt.alloc(), words, &mut input, &mut output),
-    }
+    run(rt.alloc(), words, &mut input, &mut output)
 }
