@@ -1,13 +1,13 @@
 -- What is written is plain, and is read again.
 use Rattle.std.proofs.Common.{◌≡◌, ◌≢◌, ℕ, ◌+◌, ◌<◌, ◌≤◌, min, Bool, true, false, cond, ltb, List, length, Result, Ok, Err, refl, sym, ap, subst, ◌∙◌, arith, ◌⊎◌, inl, inr}
-use Rattle.std.specs.Prelude.{IfOk, IfErr}
-use Rattle.std.proofs.lemmas.Bool.{le-ltb}
+use Rattle.std.specs.Prelude.{IfOk, IfErr, IsErrOf}
+use Rattle.std.proofs.lemmas.Bool.{le-ltb, cases_lt}
 use Rattle.std.proofs.lemmas.Bool.Decides.{nat_tests}
 use Rattle.req_tree.specs.Tree.{Tree, tree_of}
 use Rattle.req_tree.specs.declared.req.Req.{Req}
 use Rattle.req_blob.specs.declared.fault.OpsFault.{OpsFault}
 use Rattle.req_blob.specs.declared.fault.OpsFault.TheVariants as fault
-use Rattle.req_blob.specs.Spelling.{IsSpelling, IsPlain, plain, plain_blob}
+use Rattle.req_blob.specs.Spelling.{IsSpelling, IsPlain, plain, plain_blob, requirement}
 use Rattle.req_blob.specs.Encoding.{IsEncodable, HasFields, encoded}
 use Rattle.req_blob.specs.Reading.{Gives}
 use Rattle.req_blob.proofs.Fields.{ok_is}
@@ -52,6 +52,61 @@ encoded_long tree long = ap (λ (b : Bool). cond b (Err fault.TooLong) (Ok (plai
 
 pub encoded_short : (tree : Tree) (bytes : List ℕ) → length (plain_blob tree) ≤ 1048576 → bytes ≡ plain_blob tree → encoded tree ≡ Ok bytes
 encoded_short tree bytes short is = ap (λ (b : Bool). cond b (Err fault.TooLong) (Ok (plain_blob tree))) (le-ltb _ _ short) ∙ ap Ok (sym is)
+
+-- ---- the blob of an expression
+
+-- what is told of the blob of an expression
+abbrev pub BlobTold : Result (List ℕ) OpsFault → List ℕ → Type 0
+BlobTold r body =
+    IfOk r (λ b. b ≡ requirement body)
+    × ((IsErrOf r fault.TooLong → 1048576 < 12 + length body) × (1048576 < 12 + length body → IsErrOf r fault.TooLong))
+    × IfErr r (λ e. (e ≡ fault.OutOfMemory) ⊎ (e ≡ fault.TooLong))
+
+ok_is_no_err : (bytes : List ℕ) (e : OpsFault) → ◌≡◌ {A = Result (List ℕ) OpsFault} (Ok bytes) (Err e) → ⊥
+ok_is_no_err bytes e h = cc
+
+same_err : (d e : OpsFault) → ◌≡◌ {A = Result (List ℕ) OpsFault} (Err d) (Err e) → d ≡ e
+same_err d e h = cc
+
+blob_size : (tree : Tree) (body : List ℕ) → body ≡ plain tree → length (plain_blob tree) ≡ 12 + length body
+blob_size tree body is = length-requirement (plain tree) ∙ ap (λ (b : List ℕ). 12 + length b) (sym is)
+
+blob_short : (tree : Tree) (body bytes : List ℕ) → body ≡ plain tree → BlobTold (Ok bytes) body → length (plain_blob tree) ≤ 1048576
+blob_short tree body bytes is told =
+    elim (cases_lt 1048576 (12 + length body)) [
+      | inl long ↦ absurd (ok_is_no_err bytes fault.TooLong (told.1.1 long))
+      | inr le ↦ omega (arith, blob_size tree body is, le)
+    ]
+
+pub blob_plain : (r : Result (List ℕ) OpsFault) (tree : Tree) (body : List ℕ) → IsEncodable tree → HasFields tree → body ≡ plain tree → BlobTold r body → IfOk r (λ b. IsPlain tree b)
+blob_plain (Ok bytes) tree body can has is told = is_plain tree bytes can has (blob_short tree body bytes is told) (told.0 ∙ ap requirement is)
+blob_plain (Err e) tree body can has is told = tt
+
+pub blob_long : (r : Result (List ℕ) OpsFault) (tree : Tree) (body : List ℕ) → body ≡ plain tree → BlobTold r body
+    → (IsErrOf r fault.TooLong → 1048576 < length (plain_blob tree)) × (1048576 < length (plain_blob tree) → IsErrOf r fault.TooLong)
+blob_long r tree body is told = (
+  λ err. let long = told.1.0 err in omega (arith, long, blob_size tree body is),
+  λ long. told.1.1 (omega (arith, long, blob_size tree body is)),
+)
+
+pub blob_exact : (r : Result (List ℕ) OpsFault) (tree : Tree) (body : List ℕ) → body ≡ plain tree → BlobTold r body → Gives (λ b. b) r (encoded tree)
+blob_exact (Ok bytes) tree body is told = encoded_short tree bytes (blob_short tree body bytes is told) (told.0 ∙ ap requirement is)
+blob_exact (Err e) tree body is told = λ other. by_fault told.2 other
+  where
+    by_fault : ((e ≡ fault.OutOfMemory) ⊎ (e ≡ fault.TooLong)) → (e ≢ fault.OutOfMemory) → encoded tree ≡ Err e
+    by_fault (inl memory) other = absurd (other memory)
+    by_fault (inr long) other =
+        let more = told.1.0 (ap Err long) in
+        encoded_long tree (omega (arith, more, blob_size tree body is)) ∙ ap Err (sym long)
+
+-- memory was wanting, or the requirement is too long all the same
+pub wanting_long : (e : OpsFault) (tree : Tree) → (e ≡ fault.TooLong → 1048576 < length (plain_blob tree)) × (1048576 < length (plain_blob tree) → e ≡ fault.TooLong)
+    → (◌≡◌ {A = Result (List ℕ) OpsFault} (Err e) (Err fault.TooLong) → 1048576 < length (plain_blob tree)) × (1048576 < length (plain_blob tree) → ◌≡◌ {A = Result (List ℕ) OpsFault} (Err e) (Err fault.TooLong))
+wanting_long e tree both = (λ err. both.0 (same_err e fault.TooLong err), λ long. ap Err (both.1 long))
+
+pub wanting_exact : (e : OpsFault) (tree : Tree) → (e ≡ fault.TooLong → 1048576 < length (plain_blob tree)) → ((e ≡ fault.OutOfMemory) ⊎ (e ≡ fault.TooLong)) → e ≢ fault.OutOfMemory → encoded tree ≡ Err e
+wanting_exact e tree long (inl memory) other = absurd (other memory)
+wanting_exact e tree long (inr is) other = encoded_long tree (long is) ∙ ap Err (sym is)
 
 -- ---- round trips
 

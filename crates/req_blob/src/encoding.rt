@@ -1,11 +1,11 @@
 //! Requirements written as their plain bytes.
 
-ghost use Rattle.std.specs.Prelude.{◌≡◌, ◌+◌, ◌<◌, ◌↔◌, ◌++◌, length, IfOk, OnOk, IsErrOf};
+ghost use Rattle.std.specs.Prelude.{◌≡◌, ◌+◌, ◌<◌, ◌↔◌, ◌⊎◌, ◌++◌, length, IfOk, IfErr, OnOk, IsErrOf};
 ghost use Rattle.req_tree.specs.Tree.{tree_of};
 ghost use Rattle.cs_blob.specs.Numbers.{word};
 ghost use Rattle.req_blob.specs.Words.{signed_word, datum, unpadded, match_text};
 ghost use Rattle.req_tree.specs.Oid.{IsOidBytes};
-ghost use Rattle.req_blob.specs.Spelling.{IsPlain, IsSlot, IsHash, plain, plain_blob};
+ghost use Rattle.req_blob.specs.Spelling.{IsPlain, IsSlot, IsHash, plain, plain_blob, requirement};
 ghost use Rattle.req_blob.specs.Encoding.{IsEncodable, HasFields, encoded};
 ghost use Rattle.req_blob.specs.Reading.{Gives};
 
@@ -16,6 +16,9 @@ use crate::writing::{put_datum, put_hash, put_match, put_oid, put_signed, put_un
 use req_tree::{Bytes, Hash20, Match, Oid, Req};
 use std::alloc::{AllocError, Global};
 
+/// How many bytes of an expression find room at first.
+const USUAL_BYTES: usize = 512;
+
 /// The plain blob of a requirement that `is_encodable`.
 pub fn encode(alloc: Global, req: &Req) -> Result<Bytes, OpsFault>
     requires { IsEncodable (tree_of req.now) }
@@ -23,36 +26,59 @@ pub fn encode(alloc: Global, req: &Req) -> Result<Bytes, OpsFault>
     ensures long { IsErrOf result OpsFault.TooLong ↔ (1048576 < length (plain_blob (tree_of req.now))) }
     ensures exact { Gives (λ bytes. bytes) result (encoded (tree_of req.now)) }
 {
-    let size = 12 + plain_size(req);
+    match expression(alloc, req) {
+        Ok(body) => blob(alloc, &body),
+        Err(_) => Err(wanting(req)),
+    }
+}
+
+/// The plain bytes of the expression, whatever their number.
+fn expression(alloc: Global, req: &Req) -> Result<Bytes, AllocError>
+    ensures plain { IfOk result (λ bytes. bytes ≡ plain (tree_of req.now)) }
+    ensures fields { OnOk result (HasFields (tree_of req.now)) }
+{
+    let mut out = Vec::with_capacity(alloc, USUAL_BYTES)?;
+    put_req(&mut out, req)?;
+    Ok(Bytes::from_vec(out))
+}
+
+/// The blob of an expression, unless it has too many bytes.
+fn blob(alloc: Global, expression: &Bytes) -> Result<Bytes, OpsFault>
+    ensures blob { IfOk result (λ bytes. bytes ≡ requirement expression.now) }
+    ensures long { IsErrOf result OpsFault.TooLong ↔ (1048576 < 12 + length expression.now) }
+    ensures fault { IfErr result (λ fault. (fault ≡ OpsFault.OutOfMemory) ⊎ (fault ≡ OpsFault.TooLong)) }
+{
+    let size = 12 + expression.as_slice().len();
     if size > MOST_BYTES {
         return Err(OpsFault::TooLong);
     }
-    match write(alloc, size as u32, req) {
+    match with_header(alloc, size as u32, expression.as_slice()) {
         Ok(bytes) => Ok(bytes),
         Err(_) => Err(OpsFault::OutOfMemory),
     }
 }
 
-fn write(alloc: Global, size: u32, req: &Req) -> Result<Bytes, AllocError>
-    requires { size ≡ 12 + length (plain (tree_of req.now)) }
-    ensures plain { IfOk result (λ bytes. bytes ≡ plain_blob (tree_of req.now)) }
-    ensures fields { OnOk result (HasFields (tree_of req.now)) }
+fn with_header(alloc: Global, size: u32, expression: &[u8]) -> Result<Bytes, AllocError>
+    requires { size ≡ 12 + length expression.now }
+    ensures { IfOk result (λ bytes. bytes ≡ requirement expression.now) }
 {
     let mut out = Vec::with_capacity(alloc, size as usize)?;
-    put_blob(&mut out, size, req)?;
+    put_word(&mut out, MAGIC)?;
+    put_word(&mut out, size)?;
+    put_word(&mut out, 1)?;
+    out.extend_from_slice(expression)?;
     Ok(Bytes::from_vec(out))
 }
 
-fn put_blob(out: &mut Vec<u8>, size: u32, req: &Req) -> Result<(), AllocError>
-    requires { size ≡ 12 + length (plain (tree_of req.now)) }
-    ensures plain { OnOk result (out.new.items ≡ out.old.items ++ plain_blob (tree_of req.now)) }
-    ensures fields { OnOk result (HasFields (tree_of req.now)) }
+/// The refusal where memory was wanting: a requirement that is too long is that still.
+fn wanting(req: &Req) -> OpsFault
+    ensures long { (result ≡ OpsFault.TooLong) ↔ (1048576 < length (plain_blob (tree_of req.now))) }
+    ensures fault { (result ≡ OpsFault.OutOfMemory) ⊎ (result ≡ OpsFault.TooLong) }
 {
-    put_word(out, MAGIC)?;
-    put_word(out, size)?;
-    put_word(out, 1)?;
-    put_req(out, req)?;
-    Ok(())
+    if 12 + plain_size(req) > MOST_BYTES {
+        return OpsFault::TooLong;
+    }
+    OpsFault::OutOfMemory
 }
 
 fn put_req(out: &mut Vec<u8>, req: &Req) -> Result<(), AllocError>

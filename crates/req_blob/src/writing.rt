@@ -1,6 +1,6 @@
 //! The operands of an opcode, written: words, data, and the tests of a match.
 
-ghost use Rattle.std.specs.Prelude.{◌≡◌, ◌≤◌, ◌++◌, OnOk};
+ghost use Rattle.std.specs.Prelude.{◌≡◌, ◌≤◌, ◌++◌, OnOk, length};
 ghost use Rattle.cs_blob.specs.Numbers.{word};
 ghost use Rattle.req_tree.specs.Oid.{IsOidBytes};
 ghost use Rattle.req_blob.specs.Spelling.{IsSlot, IsHash};
@@ -56,7 +56,17 @@ pub(crate) fn put_hash(out: &mut Vec<u8>, hash: &Hash20) -> Result<(), AllocErro
     ensures datum { OnOk result (out.new.items ≡ out.old.items ++ datum hash.now.bytes) }
     ensures hash { IsHash hash.now.bytes }
 {
-    put_datum(out, &hash.bytes)
+    put_twenty(out, &hash.bytes)
+}
+
+/// A datum of 20 bytes, which nothing has to fill up.
+fn put_twenty(out: &mut Vec<u8>, bytes: &[u8]) -> Result<(), AllocError>
+    requires { length bytes.now ≡ 20 }
+    ensures { OnOk result (out.new.items ≡ out.old.items ++ datum bytes.now) }
+{
+    put_word(out, 20)?;
+    out.extend_from_slice(bytes)?;
+    Ok(())
 }
 
 pub(crate) fn put_oid(out: &mut Vec<u8>, oid: &Oid) -> Result<(), AllocError>
@@ -73,7 +83,10 @@ pub(crate) fn put_datum(out: &mut Vec<u8>, bytes: &[u8]) -> Result<(), AllocErro
 {
     put_length(out, bytes.len())?;
     out.extend_from_slice(bytes)?;
-    put_zeros(out, padding(bytes.len()))?;
+    let count = padding(bytes.len());
+    if count > 0 {
+        put_zeros(out, count)?;
+    }
     Ok(())
 }
 
