@@ -14,7 +14,7 @@ fn counted(closed: Closed<Counter>) -> Option<u64> {
 }
 
 fn count_of_one<R: Wait>(rt: &R, alloc: Global, times: u64) -> Option<u64> {
-    let (lock, mut seat) = Counter::locked(alloc)?;
+    let (lock, mut seat) = Counter::locked(alloc).ok()?;
     if !bump_times(rt, &lock, &mut seat, times) {
         return None;
     }
@@ -22,7 +22,7 @@ fn count_of_one<R: Wait>(rt: &R, alloc: Global, times: u64) -> Option<u64> {
 }
 
 fn count_of_four<R: Threads + Wait + Sync>(rt: &R, alloc: Global, times: u64) -> Option<u64> {
-    let (lock, mut one) = Counter::locked(alloc)?;
+    let (lock, mut one) = Counter::locked(alloc).ok()?;
     let mut two = lock.split(&mut one);
     let mut three = lock.split(&mut one);
     let mut four = lock.split(&mut two);
@@ -44,7 +44,7 @@ pub fn count_of<R: Threads + Wait + Sync>(
 ) -> Option<u64> {
     match threads {
         1 => count_of_one(rt, alloc, times),
-        2 => count_of_two(rt, alloc, times),
+        2 => count_of_two(rt, alloc, times).ok(),
         4 => count_of_four(rt, alloc, times),
         _ => None,
     }

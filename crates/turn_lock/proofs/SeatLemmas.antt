@@ -1,5 +1,5 @@
 -- A seat that is split in two, two that are joined, and the table at the end.
-use Rattle.std.proofs.Common.{◌≡◌, ◌≢◌, ◌⊎◌, ℕ, zero, suc, ◌+◌, ◌*◌, ◌^◌, ◌≤◌, true, false, List, [], ◌∷◌, ◌++◌, length, set, refl, ap, sym, subst, ◌∙◌, ⊎_elim, inl, inr, arith, length-append, Option, Some, true≢false}
+use Rattle.std.proofs.Common.{◌≡◌, ◌≢◌, ◌⊎◌, ℕ, zero, suc, ◌+◌, ◌*◌, ◌^◌, ◌<◌, ◌≤◌, true, false, List, [], ◌∷◌, ◌++◌, length, set, refl, ap, sym, subst, ◌∙◌, ⊎_elim, inl, inr, arith, length-append, Option, Some, true≢false}
 use mathlib.Core.List.{IsPrefix}
 use mathlib.Core.Logic.{dite}
 use mathlib.Core.Option.{some, some-ne-none, some-injective}
@@ -27,6 +27,10 @@ behind (x ∷ xs) y ys k a e = let t = behind xs y ys k a e in (suc t.0, t.1)
 halved : (a : ℕ) → ((m : ℕ) × (a ≡ 2 * m)) ⊎ ((m : ℕ) × (a ≡ 1 + 2 * m))
 halved zero = inl (0, refl)
 halved (suc a) = ⊎_elim (λ (t : (m : ℕ) × (a ≡ 2 * m)). let e = t.1 in inr (t.0, omega arith)) (λ (t : (m : ℕ) × (a ≡ 1 + 2 * m)). let e = t.1 in inl (t.0 + 1, omega arith)) (halved a)
+
+some_of : (a b : ℕ) → 0 < a + b → (0 < a) ⊎ (0 < b)
+some_of zero b h = inr (omega arith)
+some_of (suc a) b h = inl (omega arith)
 
 only : {A : Type 0} (xs : List A) (a : A) → length xs ≡ 1 → get_elem? xs 0 ≡ some a → xs ≡ a ∷ []
 only [] a n e = absurd (some-ne-none a (sym e))
@@ -151,7 +155,7 @@ module _ {S O E : Type 0} (stands : S → O → List (Turn E) → Type 0) (value
         hold = λ h. absurd (true≢false (sym h ∙ rests.2));
         step = l.step;
         fresh = l.fresh;
-        over = l.over;
+        over = λ z. ⊎_elim (λ (some : 0 < v.spent). l.over some) (λ (some : 0 < w.spent). m.over some) (some_of v.spent w.spent z);
         clear = λ k x e a c f. ⊎_elim (λ (t : (i : ℕ) × (get_elem? v.kept i ≡ some x)). l.clear t.0 x t.1 a c f)
             (λ (u : (kept_of w ≡ x) ⊎ ((i : ℕ) × (get_elem? w.kept i ≡ some x))). b.apart id other v w (λ z. apart (sym z)) at at' here here' (number_at v c) (inl (c, refl))
             (⊎_elim (λ (t : kept_of w ≡ x). inl (a, sym f ∙ ap (λ (y : Kept E). kept_at y a) (sym t))) (λ (t : (i : ℕ) × (get_elem? w.kept i ≡ some x)). inr (t.0, x, t.1, (a, sym f))) u))
@@ -232,6 +236,8 @@ module _ {S O E : Type 0} (stands : S → O → List (Turn E) → Type 0) (value
               own = l.all;
               kept = λ k z q. (l.kept k z q).2;
               all = λ has k t e. let q = b.made k t e in subst (IsOf t.by) (sym (alone b id v at rests.0 has q.0 q.1.0 q.1.1 q.1.2)) q.1.3;
+              within = let low = b.low in omega arith;
+              over = λ z. let y = l.over z in omega arith;
             },
           )
           | inr y ↦ absurd (let m = b.each y.1.0 y.1.1.0 y.1.1.1 y.1.1.2 in let k : TicketOk b.next b.serving b.owner y.1.0 (b.serving ∷ []) = subst (TicketOk b.next b.serving b.owner y.1.0) (m.hold y.1.1.3).0 m.ticket in

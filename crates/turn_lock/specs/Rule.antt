@@ -29,7 +29,7 @@ module _ {O E : Type 0} where
   -- one seat, at the place `by`, against the words and the history
   pub record Live (o : O) (next serving : ℕ) (h : List (Turn E)) (owner : ℕ → ℕ) (by : ℕ) (v : View O E) : Type 0 where
     pub origin : v.origin ≡ Some o
-    -- so of any two seen histories one is a prefix of the other
+    -- it has seen the history up to some turn, as has every other seat
     pub seen : IsPrefix v.seen h
     pub own : turns_of v.number v.seen ≡ v.own
     pub all : turns_of v.number h ≡ v.own
@@ -42,6 +42,7 @@ module _ {O E : Type 0} where
     pub clear : (k : ℕ) (x : Kept E) → get_elem? v.kept k ≡ some x → (a b : ℕ) → kept_at x a ≢ number_at v b
     pub over : 0 < v.spent → 2 ^ 63 ≤ next
 
+  -- no two of the seats that are not left behind have a number in common
   abbrev pub AllApart : List (View O E) → Type 0
   AllApart views = (i j : ℕ) (v w : View O E) → i ≢ j → get_elem? views i ≡ some v → get_elem? views j ≡ some w → v.gone ≡ false → w.gone ≡ false → Apart v w
 

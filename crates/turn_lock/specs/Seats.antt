@@ -8,13 +8,14 @@ use Rattle.turn_lock.specs.declared.logged.Turn.{Turn}
 use Rattle.turn_lock.specs.declared.logged.View.{View}
 use Rattle.turn_lock.specs.declared.seat.Seat.{Seat}
 use Rattle.turn_lock.specs.Turns.{turns_of}
-use Rattle.turn_lock.specs.Views.{blank, refused, turn_of, Accounts, Rests, Tallies}
+use Rattle.turn_lock.specs.Views.{blank, refused, turn_of, left_of, right_of, both_of, Accounts, Rests, Tallies}
 
 -- the name of a lock
 abbrev pub id_of : {R O E : Type 0} → TurnLock R O E → TableId
 id_of lock = lock.table.shared.table_id
 
 module _ {O E : Type 0} where
+  -- the first of the views that a seat has: there is one, but for a seat in its turn
   abbrev pub first_of_views : List (View O E) → View O E
   first_of_views [] = blank
   first_of_views (v ∷ vs) = v
@@ -60,3 +61,7 @@ module _ {O E : Type 0} where
   -- the same seat: of the same origin, with the same numbers
   abbrev pub SameSeat : View O E → View O E → Type 0
   SameSeat v w = (w.origin ≡ v.origin) × (w.number ≡ v.number) × (w.step ≡ v.step) × (w.kept ≡ v.kept)
+
+  -- the seat, which knew v, was split and joined again: it took no turn, and has its numbers
+  abbrev pub WentAround : View O E → Seat O E → Type 0
+  WentAround v s = Knows s (both_of (left_of v) (right_of v))

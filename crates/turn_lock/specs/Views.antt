@@ -1,5 +1,5 @@
 -- What a seat knows, and how a turn, a split and a join change it. This project's own.
-use Rattle.std.specs.Prelude.{◌≡◌, ◌⊎◌, ℕ, ◌+◌, ◌*◌, true, false, List, [], ◌∷◌, ◌++◌, Some, None}
+use Rattle.std.specs.Prelude.{◌≡◌, ◌⊎◌, ℕ, ◌+◌, ◌*◌, ◌^◌, ◌<◌, ◌≤◌, length, true, false, List, [], ◌∷◌, ◌++◌, Some, None}
 use mathlib.Core.List.{IsPrefix}
 use mathlib.Core.Option.{some}
 use lib.ListN.{get_elem?}
@@ -60,6 +60,9 @@ module _ {O E : Type 0} where
     pub own : turns_of v.number h ≡ v.own
     pub kept : (k : ℕ) (x : Kept E) → get_elem? v.kept k ≡ some x → turns_of x.number h ≡ x.turns
     pub all : HasAll v → (k : ℕ) (t : Turn E) → get_elem? h k ≡ some t → IsOf t.by v
+    -- there are 2 ^ 63 tickets, and one that was refused came after them
+    pub within : length h ≤ 2 ^ 63
+    pub over : 0 < v.spent → 2 ^ 63 ≤ length h
 
   -- the seat's turn with these events
   abbrev pub turn_of : View O E → List E → Turn E
@@ -77,6 +80,7 @@ module _ {O E : Type 0} where
   abbrev pub left_of : View O E → View O E
   left_of v = record v { step = 2 * v.step }
 
+  -- the other seat has no turns, and nothing that was joined to it
   abbrev pub right_of : View O E → View O E
   right_of v = record v { number = v.number + v.step; step = 2 * v.step; tickets = []; holds = false; own = []; kept = []; spent = 0 }
 
@@ -84,6 +88,6 @@ module _ {O E : Type 0} where
   abbrev pub kept_of : View O E → Kept E
   kept_of w = record { number = w.number; step = w.step; turns = w.own; seen = w.seen }
 
-  -- the seat of a join: the longer of what both have seen, and the other's list beside its own
+  -- the seat of a join: the longer of what both have seen, the other's list beside its own, and the refusals of both
   abbrev pub both_of : View O E → View O E → View O E
-  both_of v w = record v { seen = longer v.seen w.seen; kept = v.kept ++ kept_of w ∷ w.kept }
+  both_of v w = record v { seen = longer v.seen w.seen; kept = v.kept ++ kept_of w ∷ w.kept; spent = v.spent + w.spent }

@@ -1,16 +1,16 @@
 //! The smallest logged value: a count of the events of all turns, from where it began.
-ghost use Rattle.std.specs.Prelude.{◌≡◌, [], ◌∷◌, ◌++◌, ℕ, ◌+◌, Some, IfSome, IsTrue, OnOk, OnErr};
+ghost use Rattle.std.specs.Prelude.{◌≡◌, [], ◌∷◌, ◌++◌, ℕ, ◌+◌, Some, IfOk, IsTrue, OnOk, OnErr};
 ghost use Rattle.turn_lock.specs.declared.logged.View.{View};
 ghost use Rattle.turn_lock.specs.Views.{Rests, Tallies, after, newborn, refused, turn_of};
 ghost use Rattle.turn_lock.specs.Seats.{HasBegun, IsOut, MayEnd, IsReady, Knows, SameSeat, Turned, known};
-ghost use Rattle.turn_lock.specs.Counts.{Counted, HasCounted};
+ghost use Rattle.turn_lock.specs.Counts.{Counted, HasCounted, EndsCounting};
 
 use crate::fault::Spent;
 use crate::held::Held;
 use crate::lock::TurnLock;
 use crate::logged::{Logged, Names};
 use crate::seat::Seat;
-use std::alloc::Global;
+use std::alloc::{AllocError, Global};
 use std::marker::Brand;
 use std::sync::Wait;
 
@@ -30,12 +30,15 @@ impl Logged for Counter {
 }
 
 impl Counter {
-    /// A lock over a count of nothing, and its first seat; none at want of memory.
-    pub fn locked(alloc: Global) -> Option<(TurnLock<Counter>, Seat<u64, u64>)>
-        ensures ready { IfSome result (λ made. IsReady made.1 made.0) }
-        ensures seat { IfSome result (λ made. Knows made.1 (newborn 0)) }
+    /// A lock over a count of nothing, and its first seat.
+    pub fn locked(alloc: Global) -> Result<(TurnLock<Counter>, Seat<u64, u64>), AllocError>
+        ensures ready { IfOk result (λ made. IsReady made.1 made.0) }
+        ensures seat { IfOk result (λ made. Knows made.1 (newborn 0)) }
     {
-        TurnLock::new(alloc, Counter { count: 0 }).ok()
+        match TurnLock::new(alloc, Counter { count: 0 }) {
+            Ok(made) => Ok(made),
+            Err(_) => Err(AllocError),
+        }
     }
 }
 
@@ -77,7 +80,7 @@ pub fn bump<R: Wait>(
     Ok(())
 }
 
-/// Counts that many events, each in a turn of its own. False if the tickets ran out.
+/// Counts that many events, each in a turn of its own. False where a turn found no ticket left.
 pub fn bump_times<R: Wait>(
     rt: &R,
     lock: &TurnLock<Counter>,
@@ -88,6 +91,7 @@ pub fn bump_times<R: Wait>(
     ensures ready { IsReady seat.new lock.now }
     ensures seat { SameSeat (known seat.old) (known seat.new) }
     ensures counted { IsTrue result → HasCounted (known seat.old) (known seat.new) times }
+    ensures ends { EndsCounting (known seat.old) (known seat.new) times result }
 {
     for event in 0..times {
         if bump(rt, lock, seat, event).is_err() {

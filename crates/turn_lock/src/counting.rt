@@ -1,19 +1,20 @@
 //! Several threads that count under one lock.
-ghost use Rattle.std.specs.Prelude.{◌≡◌, ◌+◌, ◌*◌, ◌%◌, ◌^◌, ℕ, IsTrue, IfSome};
+ghost use Rattle.std.specs.Prelude.{◌≡◌, [], ◌∷◌, ◌++◌, ◌+◌, ◌^◌, ◌<◌, ◌≤◌, ◌↔◌, ◌&&◌, ℕ, Bool, IsTrue, IfOk, OnOk, IsErrOf, if◌then◌else◌};
 ghost use Rattle.std.specs.Thread.{IsSync};
-ghost use Rattle.turn_lock.specs.Counts.{HasCounted};
-ghost use Rattle.turn_lock.specs.Views.{Has};
+ghost use Rattle.turn_lock.specs.Counts.{HasCounted, EndsCounting, turns_in};
+ghost use Rattle.turn_lock.specs.Views.{Has, turn_of};
 ghost use Rattle.turn_lock.specs.Seats.{IsReady, SameSeat, known};
 
 use crate::closed::Closed;
 use crate::counter::{Counter, bump, bump_times};
+use crate::fault::{CountFault, Spent};
 use crate::lock::TurnLock;
 use crate::seat::Seat;
 use std::alloc::Global;
 use std::sync::Wait;
 use std::thread::{Threads, join_mut};
 
-/// Two threads count that many events each.
+/// Two threads count that many events each. False where one of them found no ticket left.
 pub fn in_two<R: Threads + Wait + Sync>(
     rt: &R,
     lock: &TurnLock<Counter>,
@@ -27,6 +28,9 @@ pub fn in_two<R: Threads + Wait + Sync>(
     ensures two { SameSeat (known two.old) (known two.new) }
     ensures one_counted { IsTrue result → HasCounted (known one.old) (known one.new) times }
     ensures two_counted { IsTrue result → HasCounted (known two.old) (known two.new) times }
+    ensures ends { (a b : Bool) × (result ≡ (a && b))
+        × EndsCounting (known one.old) (known one.new) times a
+        × EndsCounting (known two.old) (known two.new) times b }
 {
     let (first, second) = join_mut(
         rt,
@@ -35,18 +39,20 @@ pub fn in_two<R: Threads + Wait + Sync>(
             ensures ready { IsReady one.exit.now lock.entry.now }
             ensures seat { SameSeat (known one.entry.now) (known one.exit.now) }
             ensures counted { IsTrue result → HasCounted (known one.entry.now) (known one.exit.now) times }
+            ensures ends { EndsCounting (known one.entry.now) (known one.exit.now) times result }
         { bump_times(rt, lock, one, times) },
         &mut || -> bool
             requires { IsSync R.row × IsReady two.now lock.now }
             ensures ready { IsReady two.exit.now lock.entry.now }
             ensures seat { SameSeat (known two.entry.now) (known two.exit.now) }
             ensures counted { IsTrue result → HasCounted (known two.entry.now) (known two.exit.now) times }
+            ensures ends { EndsCounting (known two.entry.now) (known two.exit.now) times result }
         { bump_times(rt, lock, two, times) },
     );
     first && second
 }
 
-/// Four threads count that many events each.
+/// Four threads count that many events each. False where one of them found no ticket left.
 pub fn in_four<R: Threads + Wait + Sync>(
     rt: &R,
     lock: &TurnLock<Counter>,
@@ -64,6 +70,11 @@ pub fn in_four<R: Threads + Wait + Sync>(
     ensures two { SameSeat (known two.old) (known two.new) }
     ensures three { SameSeat (known three.old) (known three.new) }
     ensures four { SameSeat (known four.old) (known four.new) }
+    ensures ends { (a b c d : Bool) × (result ≡ ((a && b) && (c && d)))
+        × EndsCounting (known one.old) (known one.new) times a
+        × EndsCounting (known two.old) (known two.new) times b
+        × EndsCounting (known three.old) (known three.new) times c
+        × EndsCounting (known four.old) (known four.new) times d }
 {
     let (front, back) = join_mut(
         rt,
@@ -72,28 +83,44 @@ pub fn in_four<R: Threads + Wait + Sync>(
             ensures ready { IsReady one.exit.now lock.entry.now × IsReady two.exit.now lock.entry.now }
             ensures one { SameSeat (known one.entry.now) (known one.exit.now) }
             ensures two { SameSeat (known two.entry.now) (known two.exit.now) }
+            ensures ends { (a b : Bool) × (result ≡ (a && b))
+                × EndsCounting (known one.entry.now) (known one.exit.now) times a
+                × EndsCounting (known two.entry.now) (known two.exit.now) times b }
         { in_two(rt, lock, one, two, times) },
         &mut || -> bool
             requires { IsSync R.row × IsReady three.now lock.now × IsReady four.now lock.now }
             ensures ready { IsReady three.exit.now lock.entry.now × IsReady four.exit.now lock.entry.now }
             ensures three { SameSeat (known three.entry.now) (known three.exit.now) }
             ensures four { SameSeat (known four.entry.now) (known four.exit.now) }
+            ensures ends { (a b : Bool) × (result ≡ (a && b))
+                × EndsCounting (known three.entry.now) (known three.exit.now) times a
+                × EndsCounting (known four.entry.now) (known four.exit.now) times b }
         { in_two(rt, lock, three, four, times) },
     );
     front && back
 }
 
-/// What two threads count, that many events each; none if memory or the tickets run out.
-pub fn count_of_two<R: Threads + Wait + Sync>(rt: &R, alloc: Global, times: u64) -> Option<u64>
-    ensures { IfSome result (λ count. count ≡ (times + times) % 2 ^ 64) }
+/// What two threads count, that many events each.
+pub fn count_of_two<R: Threads + Wait + Sync>(
+    rt: &R,
+    alloc: Global,
+    times: u64,
+) -> Result<u64, CountFault>
+    ensures counted { IfOk result (λ count. count ≡ times + times) }
+
+    // Unless memory is wanting, the turns are refused exactly where there are more of them than tickets.
+    ensures within { OnOk result (times + times ≤ 2 ^ 63) }
+    ensures spent { IsErrOf result CountFault.Spent → 2 ^ 63 < times + times }
 {
-    let (lock, mut one) = Counter::locked(alloc)?;
+    let Ok((lock, mut one)) = Counter::locked(alloc) else {
+        return Err(CountFault::OutOfMemory);
+    };
     let mut two = lock.split(&mut one);
     let counted = in_two(rt, &lock, &mut one, &mut two, times);
     lock.join(&mut one, two);
     match lock.close(one) {
-        Closed::Whole(counter) if counted => Some(counter.count),
-        Closed::Whole(_) => None,
+        Closed::Whole(counter) if counted => Ok(counter.count),
+        Closed::Whole(_) => Err(CountFault::Spent),
         Closed::Stuck { .. } => unreachable!(),
     }
 }
@@ -109,13 +136,43 @@ pub fn in_generations<R: Wait>(
     requires { IsReady seat.old lock.now }
     ensures ready { IsReady seat.new lock.now }
     ensures numbers { (n : ℕ) → Has (known seat.old) n → Has (known seat.new) n }
+
+    // Each generation's event is a turn or a refusal, and true is without a refusal.
+    ensures tries { turns_in (known seat.new) + (known seat.new).spent
+        ≡ turns_in (known seat.old) + (known seat.old).spent + (generations + 1) }
+    ensures later { (known seat.old).spent ≤ (known seat.new).spent }
+    ensures refused { IsTrue result ↔ ((known seat.new).spent ≡ (known seat.old).spent) }
+    ensures own { IsTrue result → (known seat.new).own
+        ≡ (known seat.old).own ++ turn_of (known seat.old) (generations ∷ []) ∷ [] }
 {
     if generations == 0 {
-        return bump(rt, lock, seat, 0).is_ok();
+        return counts_one(rt, lock, seat, 0);
     }
     let mut other = lock.split(seat);
     let theirs = in_generations(rt, lock, &mut other, generations - 1);
-    let ours = bump(rt, lock, seat, generations).is_ok();
+    let ours = counts_one(rt, lock, seat, generations);
     lock.join(seat, other);
     theirs && ours
+}
+
+// Counts one event. False where it found no ticket left.
+fn counts_one<R: Wait>(
+    rt: &R,
+    lock: &TurnLock<Counter>,
+    seat: &mut Seat<u64, u64>,
+    event: u64,
+) -> bool
+    requires { IsReady seat.old lock.now }
+    ensures ready { IsReady seat.new lock.now }
+    ensures seat { SameSeat (known seat.old) (known seat.new) }
+    ensures turns { turns_in (known seat.new)
+        ≡ turns_in (known seat.old) + (if result then 1 else 0) }
+    ensures spent { (known seat.new).spent ≡ (known seat.old).spent + (if result then 0 else 1) }
+    ensures own { IsTrue result → (known seat.new).own
+        ≡ (known seat.old).own ++ turn_of (known seat.old) (event ∷ []) ∷ [] }
+{
+    match bump(rt, lock, seat, event) {
+        Ok(()) => true,
+        Err(Spent) => false,
+    }
 }

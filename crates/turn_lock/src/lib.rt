@@ -18,7 +18,7 @@ mod tests;
 mod waiting;
 
 pub use closed::Closed;
-pub use fault::Spent;
+pub use fault::{CountFault, Spent};
 pub use held::Held;
 pub use lock::TurnLock;
 pub use logged::{Kept, Logged, Names, Origins, Turn, View};

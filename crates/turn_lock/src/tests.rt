@@ -16,7 +16,7 @@ fn counted(closed: Closed<Counter>) -> Option<u64> {
 }
 
 fn count_of_four<R: Threads + Wait + Sync>(rt: &R, alloc: Global, times: u64) -> Option<u64> {
-    let (lock, mut one) = Counter::locked(alloc)?;
+    let (lock, mut one) = Counter::locked(alloc).ok()?;
     let mut two = lock.split(&mut one);
     let mut three = lock.split(&mut one);
     let mut four = lock.split(&mut two);
@@ -30,7 +30,7 @@ fn count_of_four<R: Threads + Wait + Sync>(rt: &R, alloc: Global, times: u64) ->
 }
 
 fn count_of_generations<R: Wait>(rt: &R, alloc: Global, generations: u64) -> Option<u64> {
-    let (lock, mut seat) = Counter::locked(alloc)?;
+    let (lock, mut seat) = Counter::locked(alloc).ok()?;
     if !in_generations(rt, &lock, &mut seat, generations) {
         return None;
     }
@@ -38,7 +38,7 @@ fn count_of_generations<R: Wait>(rt: &R, alloc: Global, generations: u64) -> Opt
 }
 
 fn words_after_a_drop<R: Wait>(rt: &R, alloc: Global) -> Option<(u64, u64)> {
-    let (lock, mut one) = Counter::locked(alloc)?;
+    let (lock, mut one) = Counter::locked(alloc).ok()?;
     let mut two = lock.split(&mut one);
     let Ok(held) = two.turn(rt, &lock) else {
         return None;
@@ -51,7 +51,7 @@ fn words_after_a_drop<R: Wait>(rt: &R, alloc: Global) -> Option<(u64, u64)> {
 }
 
 fn count_elsewhere<R: Threads + Sync>(rt: &R, alloc: Global) -> Option<u64> {
-    let (lock, mut one) = Counter::locked(alloc)?;
+    let (lock, mut one) = Counter::locked(alloc).ok()?;
     let mut two = lock.split(&mut one);
     two_around(rt, &lock, &mut one, &mut two);
     counted(close_there(rt, lock, one))
@@ -60,7 +60,7 @@ fn count_elsewhere<R: Threads + Sync>(rt: &R, alloc: Global) -> Option<u64> {
 #[test]
 fn two_threads_take_a_thousand_turns_each(rt: HostRuntime) -> Result<(), Fail> {
     let count = count_of_two(&rt, rt.alloc(), 1000);
-    assert!(rt; count == Some(2000));
+    assert!(rt; count == Ok(2000));
     Ok(())
 }
 

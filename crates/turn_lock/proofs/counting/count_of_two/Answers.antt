@@ -1,9 +1,10 @@
-use Rattle.std.proofs.Common.{rules, ◌≡◌, ℕ, ◌+◌, ◌%◌, ◌^◌, sym, subst, ◌∙◌, ap, Some, []}
+use Rattle.std.proofs.Common.{rules, ◌≡◌, ℕ, ◌+◌, ◌%◌, ◌^◌, ◌<◌, ◌≤◌, length, arith, sym, subst, ◌∙◌, ap, Some, []}
+use Rattle.std.proofs.Math.Nat.{mod-eq_of_lt}
 use Rattle.turn_lock.specs.declared.logged.View.{View}
 use Rattle.turn_lock.specs.Views.{HasAll, newborn, left_of, right_of, both_of}
 use Rattle.turn_lock.specs.Counts.{Counted, event_count}
 use Rattle.turn_lock.specs.Seats.{SameSeat, known}
-use Rattle.turn_lock.proofs.CountLemmas.{both_have, from_zero, two_total}
+use Rattle.turn_lock.proofs.CountLemmas.{both_have, from_zero, two_total, two_length, both_ended, one_refused}
 use Rattle.turn_lock.proofs.counting.count_of_two.Goals as goal
 
 pub unreachable-requires : goal.unreachable-requires
@@ -16,8 +17,8 @@ unreachable-requires g c =
     let whole = c.close.ensures.alone (subst HasAll (sym e) (both_have v w 0 p q)) in
     cc (whole.1, c.in-Stuck.is)
 
-pub returns-in-Whole : goal.returns-in-Whole
-returns-in-Whole g c =
+pub returns-in-Whole-clause-counted : goal.returns-in-Whole-clause-counted
+returns-in-Whole-clause-counted g c =
     let v : View ℕ ℕ = known c.in_two-counted.new.one in
     let w : View ℕ ℕ = known c.in_two-counted.new.two in
     let times : ℕ = c.args.times in
@@ -33,4 +34,40 @@ returns-in-Whole g c =
     let none' : (known c.split-two.result).own ≡ [] = search rules in
     let first : event_count v.own ≡ times = c.in_two-counted.ensures.one_counted really ∙ (ap (λ h. event_count h + times) none ∙ from_zero times) in
     let second : event_count w.own ≡ times = c.in_two-counted.ensures.two_counted really ∙ (ap (λ h. event_count h + times) none' ∙ from_zero times) in
-    two_total c.in-Whole.counter whole.1 v w (known c.join.new.seat) p q e whole.4 counted ∙ ap (λ z. z % 2 ^ 64) (λ i. first i + second i)
+    let ends = c.in_two-counted.ensures.ends in
+    let turns : length whole.1 ≡ times + times = two_length whole.1 v w (known c.join.new.seat) p q e whole.4
+    ∙ both_ended times (known c.split-two.new.seat) v (known c.split-two.result) w ends.0 ends.1 none none' (sym ends.2 ∙ really) ends.3 ends.4 in
+    let small : times + times < 2 ^ 64 = omega (arith, turns, whole.4.within) in
+    two_total c.in-Whole.counter whole.1 v w (known c.join.new.seat) p q e whole.4 counted ∙ ap (λ z. z % 2 ^ 64) (λ i. first i + second i) ∙ mod-eq_of_lt small
+
+pub returns-in-Whole-clause-within : goal.returns-in-Whole-clause-within
+returns-in-Whole-clause-within g c =
+    let v : View ℕ ℕ = known c.in_two-counted.new.one in
+    let w : View ℕ ℕ = known c.in_two-counted.new.two in
+    let p : SameSeat (left_of (newborn 0)) v = search rules in
+    let q : SameSeat (right_of (newborn 0)) w = search rules in
+    let e : known c.join.new.seat ≡ both_of v w = search rules in
+    let whole = c.close.ensures.whole c.in-Whole.counter c.in-Whole.is in
+    let none : (known c.split-two.new.seat).own ≡ [] = search rules in
+    let none' : (known c.split-two.result).own ≡ [] = search rules in
+    let ends = c.in_two-counted.ensures.ends in
+    let turns = two_length whole.1 v w (known c.join.new.seat) p q e whole.4
+    ∙ both_ended c.args.times (known c.split-two.new.seat) v (known c.split-two.result) w ends.0 ends.1 none none' (sym ends.2 ∙ c.if-counted.true) ends.3 ends.4 in
+    omega (arith, turns, whole.4.within)
+
+pub returns-in-Whole-2-clause-spent : goal.returns-in-Whole-2-clause-spent
+returns-in-Whole-2-clause-spent g c = λ is.
+    let v : View ℕ ℕ = known c.in_two-counted.new.one in
+    let w : View ℕ ℕ = known c.in_two-counted.new.two in
+    let p : SameSeat (left_of (newborn 0)) v = search rules in
+    let q : SameSeat (right_of (newborn 0)) w = search rules in
+    let e : known c.join.new.seat ≡ both_of v w = search rules in
+    let whole = c.close.ensures.whole c.in-Whole-2.field-0 c.in-Whole-2.is in
+    let none : (known c.split-two.new.seat).own ≡ [] = search rules in
+    let none' : (known c.split-two.result).own ≡ [] = search rules in
+    let ends = c.in_two-counted.ensures.ends in
+    let turns = two_length whole.1 v w (known c.join.new.seat) p q e whole.4 in
+    let less = one_refused c.args.times (known c.split-two.new.seat) v (known c.split-two.result) w ends.0 ends.1 none none' (sym ends.2 ∙ c.if-counted.false) ends.3 ends.4 in
+    let both : (known c.join.new.seat).spent ≡ v.spent + w.spent = ap (λ (z : View ℕ ℕ). z.spent) e in
+    let over : 2 ^ 63 ≤ length whole.1 = whole.4.over (omega (arith, both, less.1)) in
+    omega (arith, turns, less.0, over)
