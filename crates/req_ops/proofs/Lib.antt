@@ -3,4 +3,6 @@ pub mod SetLaws
 pub mod SetWritten
 pub mod SetTests
 pub mod SetSpelled
+pub mod Spans
+pub mod SetSizes
 pub mod RoundTrips

@@ -1,12 +1,13 @@
 -- Sets come back.
-use Rattle.std.proofs.Common.{◌≡◌, ℕ, ◌<◌, Result, Ok, Err, List, length, sym, ap, subst, ◌∙◌, ◌⊎◌, inl}
+use Rattle.std.proofs.Common.{◌≡◌, ℕ, ◌<◌, ◌≤◌, Result, Ok, Err, List, length, sym, ap, subst, ◌∙◌, ◌⊎◌, inl, inr, arith}
 use Rattle.std.specs.Prelude.{IfOk, IfErr, MatchResult}
 use Rattle.req_tree.specs.TreeSet.{TreeSet}
 use Rattle.req_ops.specs.declared.fault.SetFault.{SetFault}
 use Rattle.req_ops.specs.declared.fault.SetFault.TheVariants.{TooLong, OutOfMemory}
-use Rattle.req_ops.specs.Sets.{IsSetSpelling}
+use Rattle.req_ops.specs.Sets.{IsSetSpelling, SetFails}
 use Rattle.req_ops.specs.SetEncoding.{IsPlainSet, plain_set}
 use Rattle.req_ops.proofs.SetLaws.{one_set}
+use Rattle.req_ops.proofs.SetSizes.{plain_is_short}
 
 pub same_again : (r : Result TreeSet SetFault) (s : TreeSet) → MatchResult r (λ read. read ≡ s) (λ e. e ≡ OutOfMemory) → IfOk r (λ again. again ≡ s)
 same_again (Ok read) s h = h
@@ -24,3 +25,12 @@ respelled_same (Ok again) s bytes spelled written = (
   λ is. written.plain_is ∙ ap plain_set (one_set s is.0 bytes spelled is.1.spelled) ∙ sym is.1.plain_is,
 )
 respelled_same (Err e) s bytes spelled written = tt
+
+-- nothing that is read is too long to be written
+pub respelled_fault : (r : Result (List ℕ) SetFault) (s : TreeSet) (bytes : List ℕ) → IsSetSpelling s bytes → IfErr r (λ e. (e ≡ OutOfMemory) ⊎ ((e ≡ TooLong) × (1048576 < length (plain_set s)))) → IfErr r (λ e. SetFails bytes e)
+respelled_fault (Ok again) s bytes spelled h = tt
+respelled_fault (Err e) s bytes spelled (inl memory) = subst (SetFails bytes) (sym memory) tt
+respelled_fault (Err e) s bytes spelled (inr long) =
+    let short : length bytes ≤ 1048576 = spelled.short in
+    let more : 1048576 < length (plain_set s) = long.1 in
+    absurd (omega (arith, short, more, plain_is_short s bytes spelled))

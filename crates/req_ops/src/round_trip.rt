@@ -28,8 +28,8 @@ pub fn reread_set(alloc: Global, set: &ReqSet) -> Result<ReqSet, SetFault>
 pub fn respell_set(alloc: Global, bytes: &[u8]) -> Result<Bytes, SetFault>
     ensures spells { IfOk result (λ again. (set : TreeSet) × IsSetSpelling set bytes.now × IsPlainSet set again) }
     ensures same { IfOk result (λ again. (again ≡ bytes.now) ↔ ((set : TreeSet) × IsPlainSet set bytes.now)) }
-    // Nothing else than reading refuses, but for a set that is too long when plain.
-    ensures fault { IfErr result (λ fault. SetFails bytes.now fault ⊎ ((fault ≡ SetFault.TooLong) × ((set : TreeSet) × IsSetSpelling set bytes.now × (1048576 < length (plain_set set))))) }
+    // What is read isn't too long to be written.
+    ensures fault { IfErr result (λ fault. SetFails bytes.now fault) }
 {
     match decode_set(alloc, bytes) {
         Ok(set) => write_again(alloc, set),

@@ -1,4 +1,4 @@
-use Rattle.req_ops.proofs.RoundTrips.{respelled_same}
+use Rattle.req_ops.proofs.RoundTrips.{respelled_same, respelled_fault}
 use Rattle.req_ops.proofs.SetSpelled.{spelled_can_encode}
 use Rattle.req_ops.proofs.round_trip.respell_set.Goals as goal
 
@@ -7,3 +7,6 @@ write_again-requires c = spelled_can_encode _ _ c.in-Ok.ensures.found
 
 pub returns-in-Ok-clause-same : goal.returns-in-Ok-clause-same
 returns-in-Ok-clause-same c = respelled_same _ _ _ c.in-Ok.ensures.found c.write_again.ensures.plain
+
+pub returns-in-Ok-clause-fault : goal.returns-in-Ok-clause-fault
+returns-in-Ok-clause-fault c = respelled_fault _ _ _ c.in-Ok.ensures.found c.write_again.ensures.fault

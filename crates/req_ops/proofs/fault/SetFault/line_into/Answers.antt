@@ -22,4 +22,4 @@ pub returns-in-Part-clause-text : goal.returns-in-Part-clause-text
 returns-in-Part-clause-text c =
     rw c.in-Part.is
     (followed (line_bytes c.args.out.now) (codes "5 Part index=") (decimal c.in-Part.index) _ _ _ _ c.line_into-in-Part.ensures.text c.push.ensures.text
-      (numbered (line_bytes c.args.out.now) (codes "5 Part index=") _ _ _ _ c.push_number-in-Part.ensures.text c.push_all-in-Part.ensures.text c.from-in-Part.ensures))
+    (numbered (line_bytes c.args.out.now) (codes "5 Part index=") _ _ _ _ c.push_number-in-Part.ensures.text c.push_all-in-Part.ensures.text c.from-in-Part.ensures))
