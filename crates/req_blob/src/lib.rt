@@ -19,6 +19,3 @@ pub use encodable::is_encodable;
 pub use encoding::encode;
 pub use fault::OpsFault;
 pub use round_trip::{reread, respell};
-
-#[cfg(test)]
-mod tests;

@@ -16,4 +16,6 @@ pub use req_blob::{OpsFault, decode, encode, is_encodable, reread, respell};
 pub use round_trip::{reread_set, respell_set};
 
 #[cfg(test)]
+mod requirement_tests;
+#[cfg(test)]
 mod tests;
