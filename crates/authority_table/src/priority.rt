@@ -11,7 +11,7 @@ pub struct Priority {
     millionths: i64,
 }
 
-ghost use Rattle.req_tree.specs.LineText.{line_bytes};
+ghost use Rattle.line_text.specs.LineText.{line_bytes};
 ghost use Rattle.policy_model.specs.Texts.{places, fraction_text, priority_text};
 
 impl Model for Priority {

@@ -1,7 +1,7 @@
 //! Why bytes begin with no blob or super-blob, and why a part can't be added to one.
 
 ghost use Rattle.std.specs.Prelude.{◌≡◌, ◌+◌, ◌≤◌, ◌++◌, length, decimal};
-ghost use Rattle.req_tree.specs.LineText.{line_bytes};
+ghost use Rattle.line_text.specs.LineText.{line_bytes};
 
 use req_tree::LineText;
 use std::alloc::{AllocError, AllocFailed};
@@ -29,12 +29,12 @@ pub enum BlobFault {
 
 impl BlobFault {
     ghost use Rattle.std.specs.Prelude.{◌≡◌, ◌+◌, ◌≤◌, ◌++◌, length};
-    ghost use Rattle.req_tree.specs.LineText.{line_bytes};
+    ghost use Rattle.line_text.specs.LineText.{line_bytes};
     ghost use Rattle.cs_blob.specs.FaultText.{blob_fault_text};
 
     /// Appends the refusal's number, its name and its fields.
     pub fn line_into(&self, out: &mut LineText)
-        requires { length (line_bytes out.old) ≤ 400 }
+        requires { length (line_bytes out.old) ≤ 600 }
         ensures text { line_bytes out.new ≡ line_bytes out.old ++ blob_fault_text self.now }
         ensures length { length (line_bytes out.new) ≤ length (line_bytes out.old) + 50 }
     {
@@ -51,7 +51,7 @@ impl BlobFault {
 }
 
 fn push_field(out: &mut LineText, name: &[u8], number: u32)
-    requires { length (line_bytes out.old) + length name.now ≤ 450 }
+    requires { length (line_bytes out.old) + length name.now ≤ 650 }
     ensures text { line_bytes out.new ≡ line_bytes out.old ++ (name.now ++ decimal number) }
     ensures length { length (line_bytes out.new) ≤ length (line_bytes out.old) + (length name.now + 20) }
 {

@@ -1,7 +1,7 @@
 //! The answer to an edit.
 
 ghost use Rattle.std.specs.Prelude.{◌≡◌, ◌+◌, ◌≤◌, ◌++◌, length};
-ghost use Rattle.req_tree.specs.LineText.{line_bytes};
+ghost use Rattle.line_text.specs.LineText.{line_bytes};
 ghost use Rattle.policy_model.specs.Replies.{answer_text, numbers_text};
 
 use req_tree::LineText;

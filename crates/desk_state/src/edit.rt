@@ -1,7 +1,7 @@
 //! An edit of the rules, and its answer.
 
 ghost use Rattle.std.specs.Prelude.{◌≡◌, ◌+◌, ◌≤◌, ◌↔◌, ◌++◌, length, IsTrue, IfOk};
-ghost use Rattle.req_tree.specs.LineText.{line_bytes};
+ghost use Rattle.line_text.specs.LineText.{line_bytes};
 ghost use Rattle.policy_model.specs.Texts.{content_text};
 
 use crate::edit_key::EditKey;

@@ -2,8 +2,8 @@
 
 ghost use Rattle.std.specs.Prelude.{◌≡◌, ◌↔◌, IsTrue, true};
 ghost use Rattle.std.specs.List.{list_all};
-ghost use Rattle.policy_model.specs.Words.{is_key};
-ghost use Rattle.policy_model.specs.Words as words;
+ghost use Rattle.policy_model.specs.Keys.{is_key};
+ghost use Rattle.policy_model.specs.Keys as words;
 
 use arrayvec::ArrayVec;
 

@@ -1,7 +1,7 @@
 //! Refusals of edits and of lines, with their numbers and printed lines.
 
 ghost use Rattle.std.specs.Prelude.{◌≡◌, ◌+◌, ◌≤◌, ◌++◌, length};
-ghost use Rattle.req_tree.specs.LineText.{line_bytes};
+ghost use Rattle.line_text.specs.LineText.{line_bytes};
 ghost use Rattle.policy_model.specs.Replies.{not_built_text};
 
 use crate::answer::numbers_into;

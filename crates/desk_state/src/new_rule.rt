@@ -1,8 +1,8 @@
 //! The rule that an edit adds.
 
-ghost use Rattle.std.specs.Prelude.{◌≡◌, ◌+◌, ◌≤◌, ◌++◌, [], ◌∷◌, length, Some, IfOk};
-ghost use Rattle.req_tree.specs.LineText.{line_bytes};
-ghost use Rattle.policy_model.specs.Lines.{requirement};
+ghost use Rattle.std.specs.Prelude.{◌≡◌, ◌+◌, ◌≤◌, ◌++◌, [], ◌∷◌, length, IfOk};
+ghost use Rattle.line_text.specs.LineText.{line_bytes};
+ghost use Rattle.req_grammar.specs.Requirement.{IsRequirement};
 ghost use Rattle.policy_model.specs.Texts.{add_front, verdict_word, expiry_text, flags_text};
 
 use authority_table::{Kind, Label, Moment, Priority, Rule, RuleId};
@@ -22,7 +22,7 @@ pub struct NewRule {
     /// The requirement as it was given.
     pub text: Bytes,
     pub tree: SharedReq,
-    pub ghost reads: { ∥ requirement text ≡ Some tree ∥₁ },
+    pub ghost reads: { ∥ IsRequirement text tree ∥₁ },
 }
 
 impl NewRule {

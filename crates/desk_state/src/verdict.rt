@@ -1,7 +1,7 @@
 //! The verdict on an assessment.
 
 ghost use Rattle.std.specs.Prelude.{◌≡◌, ◌+◌, ◌≤◌, ◌++◌, length};
-ghost use Rattle.req_tree.specs.LineText.{line_bytes};
+ghost use Rattle.line_text.specs.LineText.{line_bytes};
 ghost use Rattle.policy_model.specs.Replies.{verdict_text, number_text, accepted_text, override_text, origin_text, cache_text};
 
 use authority_table::{Label, Moment, RuleId};

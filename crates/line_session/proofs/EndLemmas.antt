@@ -11,7 +11,9 @@ use Rattle.line_reader.proofs.LimitsLemmas.{not_both, RunsPast-append, within_pa
 use Rattle.line_session.specs.Ends.{EndsFine, StopsBefore, BreaksOff, AtReadFault, AtLimit, AtWant}
 use Rattle.line_session.specs.Replies.{IsReplied}
 use Rattle.line_session.specs.declared.reply.Reply.TheVariants.{Whole, Broken, Unanswered}
-use Rattle.line_session.specs.Turns.{IsGoing}
+use Rattle.line_session.specs.Turns.{IsGoing, IsEnd}
+use Rattle.line_session.specs.declared.ended.Ended.{Ended}
+use Rattle.line_session.specs.declared.ended.Ended.TheVariants.{Fine, ReadFault, WriteFault, TooLong, OutOfMemory}
 use Rattle.line_session.proofs.KnownLemmas.{lost_behind, end_left, lost_at_end, put_kept}
 
 -- the replies and a front of one more
@@ -49,6 +51,15 @@ stops_at_once A left first a = record {
   put = Appends-nil first;
   answered = a;
 }
+
+-- however it ended, some lines were answered
+pub is_answered : (A : List (List ℕ) → List (List ℕ) → Type 0) (start left first sent : Option (List ℕ)) (end : Ended) → IsEnd A start left first sent end
+    → (lines replies : List (List ℕ)) × A lines replies
+is_answered A start left first sent Fine e = (lines_of e.bytes, e.replies, e.answered)
+is_answered A start left first sent ReadFault e = (e.lines, e.replies, e.answered)
+is_answered A start left first sent WriteFault e = (e.lines ++ e.line ∷ [], e.replies ++ e.reply ∷ [], e.answered)
+is_answered A start left first sent TooLong e = (e.lines, e.replies, e.answered)
+is_answered A start left first sent OutOfMemory e = (e.lines, e.replies, e.answered)
 
 -- bytes that run past the limits are no told session within them
 pub too_long : (A : List (List ℕ) → List (List ℕ) → Type 0) (left now written sent : Option (List ℕ)) (bytes : List ℕ) → left ≡ Some bytes → StopsBefore AtLimit A left now written sent → IsWithin bytes → ⊥
@@ -153,8 +164,8 @@ module _ (A B : List (List ℕ) → List (List ℕ) → Type 0) (start left firs
         replied.2;
   }
 
-  pub last_broken : (part : IsPart s (stream r left) held) → IsAtEnd (prepend_known (pending r) left) → r.lines ≤ 1000000 → r.bytes ≤ 268435456 → IsReplied B old new part.bytes going.lines going.replies Broken → BreaksOff B start left first new
-  last_broken part end most size replied = record {
+  pub last_broken : (part : IsPart s (stream r left) held) → held ≢ [] → IsAtEnd (prepend_known (pending r) left) → r.lines ≤ 1000000 → r.bytes ≤ 268435456 → IsReplied B old new part.bytes going.lines going.replies Broken → BreaksOff B start left first new
+  last_broken part some end most size replied = record {
     lines = going.lines;
     line = part.bytes;
     rest = [];
@@ -164,7 +175,7 @@ module _ (A B : List (List ℕ) → List (List ℕ) → Type 0) (start left firs
     taken = subst (λ (l : List ℕ). Consumes start left (text_of going.lines ++ l)) (sym (append-nil part.bytes)) (last_lost part end);
     whole = whole_more going.lines part.bytes going.whole part.no_lf;
     within = subst (λ (l : List ℕ). IsWithin (text_of going.lines ++ l)) (sym (append-nil part.bytes)) (handed_within part most size);
-    ended = end_left left (pending r) end;
+    ended = (λ none. absurd (omega (arith, ap length none, some_held 8193 held part.bytes part.front some)), end_left left (pending r) end);
     put = broken_put first old new going.replies replied.0 replied.1 going.put replied.2;
     answered = replied.3;
   }

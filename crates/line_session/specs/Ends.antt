@@ -1,5 +1,5 @@
 -- What a session has read, answered and written when it ends. This project's own.
-use Rattle.std.specs.Prelude.{◌≡◌, ℕ, ◌-◌, ◌⊎◌, List, [], ◌∷◌, ◌++◌, Option, All, length, take, ⊤}
+use Rattle.std.specs.Prelude.{◌≡◌, ◌≢◌, ℕ, ◌-◌, ◌⊎◌, List, [], ◌∷◌, ◌++◌, Option, All, length, take, ⊤}
 use Rattle.std.specs.Io.KnownBytes.{Appends, Consumes, IsAtEnd}
 use Rattle.line_reader.specs.Lines.{lines_of, text_of, with_lf, HasNoLf}
 use Rattle.line_reader.specs.Limits.{IsWithin, RunsPast}
@@ -38,10 +38,10 @@ AtLimit lines rest = RunsPast (text_of lines ++ rest) × ((length lines ≡ 1000
 abbrev pub AtWant : List (List ℕ) → List ℕ → Type 0
 AtWant lines rest = ⊤
 
--- what stands behind a line: its LF, or nothing at the end
-abbrev pub EndsLine : List ℕ → Option (List ℕ) → Type 0
-EndsLine [] now = IsAtEnd now
-EndsLine (byte ∷ rest) now = byte ≡ 10
+-- what stands behind a line: its LF, or at the end nothing, and then the line isn't empty
+abbrev pub EndsLine : List ℕ → List ℕ → Option (List ℕ) → Type 0
+EndsLine line [] now = (line ≢ []) × IsAtEnd now
+EndsLine line (byte ∷ rest) now = byte ≡ 10
 
 -- all lines up to one were read within the limits and answered; of the last reply a front was written, the others whole
 pub record BreaksOff (Answered : List (List ℕ) → List (List ℕ) → Type 0) (left now written sent : Option (List ℕ)) : Type 0 where
@@ -54,6 +54,6 @@ pub record BreaksOff (Answered : List (List ℕ) → List (List ℕ) → Type 0)
   pub taken : Consumes left now (text_of lines ++ (line ++ rest))
   pub whole : All HasNoLf (lines ++ line ∷ [])
   pub within : IsWithin (text_of lines ++ (line ++ take 1 rest))
-  pub ended : EndsLine rest now
+  pub ended : EndsLine line rest now
   pub put : Appends written sent (text_of replies ++ take count (with_lf reply))
   pub answered : Answered (lines ++ line ∷ []) (replies ++ reply ∷ [])

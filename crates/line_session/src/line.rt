@@ -1,13 +1,13 @@
 //! One line that goes out.
 
 ghost use Rattle.std.specs.Prelude.{◌≡◌, ◌≤◌, length, OnOk, OnErr, is_some};
-ghost use Rattle.req_tree.specs.LineText.{line_bytes};
+ghost use Rattle.line_text.specs.LineText.{line_bytes};
 ghost use Rattle.gk_io.specs.Faults.{Rose};
 ghost use Rattle.gk_io.specs.Told.{IsFlushed, PutAppends};
 ghost use Rattle.line_reader.specs.Lines.{with_lf};
 
 use gk_io::{Failed, Sink};
-use req_tree::LineText;
+use line_text::LineText;
 
 /// Writes the text with an LF in one call, and flushes it. The LF stays at the end of the text.
 pub fn write_line<W: Sink>(output: &mut W, text: &mut LineText) -> Result<(), Failed>

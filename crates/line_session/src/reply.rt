@@ -1,7 +1,7 @@
 //! One line's reply.
 
 ghost use Rattle.std.specs.Prelude.{◌≡◌, ◌≢◌, ◌≤◌, ℕ, List, [], ◌∷◌, ◌++◌, is_some, length, take};
-ghost use Rattle.req_tree.specs.LineText.{line_bytes};
+ghost use Rattle.line_text.specs.LineText.{line_bytes};
 ghost use Rattle.gk_io.specs.Faults.{Rose};
 ghost use Rattle.gk_io.specs.Told.{IsFlushed};
 ghost use Rattle.line_session.specs.Replies.{IsReplied};
@@ -9,7 +9,7 @@ ghost use Rattle.line_session.specs.Replies.{IsReplied};
 use crate::line::write_line;
 use crate::responder::Responder;
 use gk_io::{Failed, Sink};
-use req_tree::LineText;
+use line_text::LineText;
 use std::alloc::{AllocError, Global};
 
 /// What became of one line's reply.
@@ -31,9 +31,9 @@ pub fn reply_to<R: Responder, W: Sink>(
     text: &mut LineText,
     output: &mut W,
 ) -> Reply
-    ensures replied { (whole : List ℕ) (lines replies : List (List ℕ))
-        → line.now ≡ take 8193 whole → R.answered responder.old lines replies
-        → IsReplied (R.answered responder.new) (W.written output.old) (W.written output.new)
+    ensures replied { (begin : R) (whole : List ℕ) (lines replies : List (List ℕ))
+        → line.now ≡ take 8193 whole → R.answered begin responder.old lines replies
+        → IsReplied (R.answered begin responder.new) (W.written output.old) (W.written output.new)
         whole lines replies result }
     ensures flushed { result ≢ Reply.Broken → IsFlushed (W.flushed output.old) (W.written output.old)
         → IsFlushed (W.flushed output.new) (W.written output.new) }

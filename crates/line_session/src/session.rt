@@ -13,7 +13,7 @@ use crate::reply::{Reply, reply_to};
 use crate::responder::Responder;
 use gk_io::{Failed, Sink, Source};
 use line_reader::{LineRead, LineReader};
-use req_tree::LineText;
+use line_text::LineText;
 use std::alloc::Global;
 
 /// Answers the source's lines in order, each by one line into the sink, until the source's end, a fault, the
@@ -24,19 +24,20 @@ pub fn run_session<R: Responder, S: Source, W: Sink>(
     input: &mut S,
     output: &mut W,
 ) -> Ended
-    requires { R.answered responder.old [] [] }
+    requires { R.answered responder.old responder.old [] [] }
 
     // What was read, answered and written, by the end.
-    ensures fine { result ≡ Ended.Fine → EndsFine (R.answered responder.new)
+    ensures fine { result ≡ Ended.Fine → EndsFine (R.answered responder.old responder.new)
         (S.left input.old) (S.left input.new) (W.written output.old) (W.written output.new) }
-    ensures read_fault { result ≡ Ended.ReadFault → StopsBefore AtReadFault (R.answered responder.new)
+    ensures read_fault { result ≡ Ended.ReadFault → StopsBefore AtReadFault (R.answered responder.old responder.new)
         (S.left input.old) (S.left input.new) (W.written output.old) (W.written output.new) }
-    ensures too_long { result ≡ Ended.TooLong → StopsBefore AtLimit (R.answered responder.new)
+    ensures too_long { result ≡ Ended.TooLong → StopsBefore AtLimit (R.answered responder.old responder.new)
         (S.left input.old) (S.left input.new) (W.written output.old) (W.written output.new) }
-    ensures out_of_memory { result ≡ Ended.OutOfMemory → StopsBefore AtWant (R.answered responder.new)
+    ensures out_of_memory { result ≡ Ended.OutOfMemory → StopsBefore AtWant (R.answered responder.old responder.new)
         (S.left input.old) (S.left input.new) (W.written output.old) (W.written output.new) }
-    ensures write_fault { result ≡ Ended.WriteFault → BreaksOff (R.answered responder.new)
+    ensures write_fault { result ≡ Ended.WriteFault → BreaksOff (R.answered responder.old responder.new)
         (S.left input.old) (S.left input.new) (W.written output.old) (W.written output.new) }
+    ensures answered { (lines replies : List (List ℕ)) × R.answered responder.old responder.new lines replies }
     ensures flushed { result ≢ Ended.WriteFault → IsFlushed (W.flushed output.old) (W.written output.old)
         → IsFlushed (W.flushed output.new) (W.written output.new) }
 
@@ -72,8 +73,8 @@ fn all_lines<R: Responder, S: Source, W: Sink>(
     requires pending { pending reader.old ≡ [] }
     requires lines { lines_handed reader.old ≡ 0 }
     requires bytes { bytes_handed reader.old ≡ 0 }
-    requires answered { R.answered responder.old [] [] }
-    ensures ends { IsEnd (R.answered responder.new)
+    requires answered { R.answered responder.old responder.old [] [] }
+    ensures ends { IsEnd (R.answered responder.old responder.new)
         (S.left input.old) (S.left input.new) (W.written output.old) (W.written output.new) result }
     ensures flushed { result ≢ Ended.WriteFault → IsFlushed (W.flushed output.old) (W.written output.old)
         → IsFlushed (W.flushed output.new) (W.written output.new) }
@@ -104,9 +105,9 @@ fn turn<R: Responder, S: Source, W: Sink>(
     input: &mut S,
     output: &mut W,
 ) -> Option<Ended>
-    ensures goes { (start first : Option (List ℕ))
-        → IsGoing (R.answered responder.old) start (stream reader.old (S.left input.old)) first (W.written output.old)
-        → IsTurn (R.answered responder.new) start (S.left input.new) (stream reader.new (S.left input.new))
+    ensures goes { (begin : R) (start first : Option (List ℕ))
+        → IsGoing (R.answered begin responder.old) start (stream reader.old (S.left input.old)) first (W.written output.old)
+        → IsTurn (R.answered begin responder.new) start (S.left input.new) (stream reader.new (S.left input.new))
         first (W.written output.new) result }
     ensures counted { IfNone result (lines_handed reader.old < lines_handed reader.new) }
     ensures lines { lines_handed reader.new ≤ 1000000 }

@@ -4,7 +4,7 @@ ghost use Rattle.std.specs.Prelude.{ℕ, List, None};
 
 use super::{Ended, Responder, run_session};
 use gk_io::{CallNumbers, Failed, MemorySink, MemorySource, Sink, Source};
-use req_tree::LineText;
+use line_text::LineText;
 use std::alloc::{AllocError, Global};
 use std::test::Fail;
 
@@ -15,7 +15,7 @@ struct Echo {
 }
 
 impl Responder for Echo {
-    ghost answered = { λ _ _ _. Unit {0} };
+    ghost answered = { λ _ _ _ _. Unit {0} };
 
     fn answer(
         &mut self,
@@ -108,21 +108,29 @@ const READ_FAILS: [(u64, &[u8], u64); 6] = [
     (6, b"a\nb\n", 2),
 ];
 
+fn is_read_fault(
+    alloc: Global,
+    call: u64,
+    written: &[u8],
+    answers: u64,
+) -> Result<bool, AllocError> {
+    let bytes = b"a\nb\nc".to_vec(alloc)?;
+    let mut output = MemorySink::with_room(alloc, 100, CallNumbers::new(alloc))?;
+    let inner = MemorySource::new(bytes, failing(alloc, call)?);
+    let mut input = Trickle { inner };
+    let mut echo = Echo { answers: 0 };
+    let ended = run_session(alloc, &mut echo, &mut input, &mut output);
+    drop(input);
+    let is = ended == Ended::ReadFault && output.written() == written && echo.answers == answers;
+    drop(output);
+    Ok(is)
+}
+
 #[test]
 fn each_read_fails_in_turn(rt: HostRuntime) -> Result<(), Fail> {
-    let alloc = rt.alloc();
     for (call, written, answers) in READ_FAILS {
-        let inner = MemorySource::new(b"a\nb\nc".to_vec(alloc)?, failing(alloc, call)?);
-        let mut input = Trickle { inner };
-        let mut output = MemorySink::with_room(alloc, 100, CallNumbers::new(alloc))?;
-        let mut echo = Echo { answers: 0 };
-        assert_eq!(rt;
-            run_session(alloc, &mut echo, &mut input, &mut output),
-            Ended::ReadFault,
-            "at {call}"
-        );
-        assert_eq!(rt; output.written(), written, "at {call}");
-        assert_eq!(rt; echo.answers, answers, "at {call}");
+        let is = is_read_fault(rt.alloc(), call, written, answers)?;
+        assert!(rt; is, "at {call}");
     }
     Ok(())
 }
@@ -137,20 +145,28 @@ const WRITE_FAILS: [(u64, &[u8], u64); 6] = [
     (6, b"a\nb\nc\n", 3),
 ];
 
+fn is_write_fault(
+    alloc: Global,
+    call: u64,
+    written: &[u8],
+    answers: u64,
+) -> Result<bool, AllocError> {
+    let bytes = b"a\nb\nc".to_vec(alloc)?;
+    let mut output = MemorySink::with_room(alloc, 100, failing(alloc, call)?)?;
+    let mut input = MemorySource::new(bytes, CallNumbers::new(alloc));
+    let mut echo = Echo { answers: 0 };
+    let ended = run_session(alloc, &mut echo, &mut input, &mut output);
+    drop(input);
+    let is = ended == Ended::WriteFault && output.written() == written && echo.answers == answers;
+    drop(output);
+    Ok(is)
+}
+
 #[test]
 fn each_write_fails_in_turn(rt: HostRuntime) -> Result<(), Fail> {
-    let alloc = rt.alloc();
     for (call, written, answers) in WRITE_FAILS {
-        let mut input = MemorySource::new(b"a\nb\nc".to_vec(alloc)?, CallNumbers::new(alloc));
-        let mut output = MemorySink::with_room(alloc, 100, failing(alloc, call)?)?;
-        let mut echo = Echo { answers: 0 };
-        assert_eq!(rt;
-            run_session(alloc, &mut echo, &mut input, &mut output),
-            Ended::WriteFault,
-            "at {call}"
-        );
-        assert_eq!(rt; output.written(), written, "at {call}");
-        assert_eq!(rt; echo.answers, answers, "at {call}");
+        let is = is_write_fault(rt.alloc(), call, written, answers)?;
+        assert!(rt; is, "at {call}");
     }
     Ok(())
 }
@@ -165,30 +181,36 @@ const FINE: [(&[u8], &[u8]); 6] = [
     (b"a\nb\n", b"a\nb\n"),
 ];
 
+fn is_echoed<S: Source>(alloc: Global, input: &mut S, written: &[u8]) -> Result<bool, AllocError> {
+    let mut output = MemorySink::with_room(alloc, 100, CallNumbers::new(alloc))?;
+    let mut echo = Echo { answers: 0 };
+    let ended = run_session(alloc, &mut echo, input, &mut output);
+    let is = ended == Ended::Fine && output.written() == written && output.flushed() == written;
+    drop(output);
+    Ok(is)
+}
+
+fn is_echoed_whole(alloc: Global, bytes: &[u8], written: &[u8]) -> Result<bool, AllocError> {
+    let mut input = MemorySource::new(bytes.to_vec(alloc)?, CallNumbers::new(alloc));
+    let is = is_echoed(alloc, &mut input, written);
+    drop(input);
+    is
+}
+
+fn is_echoed_in_pieces(alloc: Global, bytes: &[u8], written: &[u8]) -> Result<bool, AllocError> {
+    let inner = MemorySource::new(bytes.to_vec(alloc)?, CallNumbers::new(alloc));
+    let mut input = Trickle { inner };
+    let is = is_echoed(alloc, &mut input, written);
+    drop(input);
+    is
+}
+
 #[test]
 fn each_line_has_its_reply_whatever_the_pieces(rt: HostRuntime) -> Result<(), Fail> {
-    let alloc = rt.alloc();
     for (bytes, written) in FINE {
-        let mut input = MemorySource::new(bytes.to_vec(alloc)?, CallNumbers::new(alloc));
-        let mut output = MemorySink::with_room(alloc, 100, CallNumbers::new(alloc))?;
-        assert_eq!(rt;
-            run_session(alloc, &mut Echo { answers: 0 }, &mut input, &mut output),
-            Ended::Fine
-        );
-        assert_eq!(rt; output.written(), written);
-        assert_eq!(rt; output.flushed(), written);
-        let inner = MemorySource::new(bytes.to_vec(alloc)?, CallNumbers::new(alloc));
-        let mut output = MemorySink::with_room(alloc, 100, CallNumbers::new(alloc))?;
-        assert_eq!(rt;
-            run_session(
-                alloc,
-                &mut Echo { answers: 0 },
-                &mut Trickle { inner },
-                &mut output
-            ),
-            Ended::Fine
-        );
-        assert_eq!(rt; output.written(), written);
+        let whole = is_echoed_whole(rt.alloc(), bytes, written)?;
+        let pieces = is_echoed_in_pieces(rt.alloc(), bytes, written)?;
+        assert!(rt; whole && pieces);
     }
     Ok(())
 }

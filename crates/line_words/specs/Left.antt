@@ -1,7 +1,7 @@
 -- What is left of a line whose first words were taken. This project's own.
 use Rattle.std.specs.Prelude.{ℕ, List, [], Option, Some, None}
 use Rattle.std.specs.Option.{option_copied}
-use Rattle.policy_model.specs.Words.{words}
+use Rattle.session_model.specs.Words.{words}
 use Rattle.line_words.specs.declared.words.Words as code
 
 -- no words after the last one, or those of a text

@@ -1,6 +1,6 @@
 -- How a word that is taken stands to the forms of lines. This project's own.
 use Rattle.std.specs.Prelude.{◌≡◌, ℕ, List, Option, option_and_then}
-use Rattle.policy_model.specs.Lines.{Request, word}
+use Rattle.session_model.specs.Lines.{Request, word}
 
 -- a word was taken off the old words, which leaves the new ones, and read as the value, or there is no such word:
 -- whatever a form makes of the old words, it makes of the value and the new ones

@@ -8,7 +8,7 @@ mod words;
 
 pub use number::read_number;
 pub use reading::{
-    is_dash, read_allow, read_expiry, read_hash, read_identifier, read_kind, read_moment,
+    is_dash, read_allow, read_expiry, read_identifier, read_kind, read_moment,
     read_platform, read_priority,
 };
 pub use words::Words;

@@ -3,14 +3,14 @@
 ghost use Rattle.std.specs.Prelude.{◌≡◌, ◌↔◌, ◌≤ℤ◌, pos, codes, IsTrue, IfSome};
 ghost use Rattle.std.specs.Option.{option_map};
 ghost use Rattle.std.specs.List.{list_all};
-ghost use Rattle.req_tree.specs.WordText.{is_plain};
-ghost use Rattle.policy_model.specs.Words.{moment_word, expiry_word, kind_word, allow_word, priority_word, units_word, hash_word, identifier_word, platform_word};
+ghost use Rattle.line_text.specs.WordText.{is_plain};
+ghost use Rattle.session_model.specs.Words.{moment_word, expiry_word, kind_word, allow_word, priority_word, units_word, identifier_word, platform_word};
 ghost use Rattle.req_tree.specs.Subject.{identifier_bytes};
 ghost use Rattle.authority_table.specs.Kind.{kind_of};
 
 use crate::number::read_number;
 use authority_table::{Kind, Moment, Priority};
-use req_tree::{Hash20, Identifier};
+use req_tree::Identifier;
 
 /// How many millionths a unit of priority has.
 const UNIT: i64 = 1_000_000;
@@ -85,17 +85,6 @@ pub fn is_dash(word: &[u8]) -> bool
     ensures { IsTrue result ↔ (word.now ≡ codes "-") }
 {
     word == b"-".as_slice()
-}
-
-/// Forty hexadecimal digits of either case.
-pub fn read_hash(word: &[u8]) -> Option<Hash20>
-    ensures { option_map (λ (hash : Hash20). hash.bytes) result ≡ hash_word word.now }
-{
-    let mut bytes = [0; 20];
-    match hex::decode_to_slice(word, &mut bytes) {
-        Ok(()) => Some(Hash20 { bytes }),
-        Err(_) => None,
-    }
 }
 
 /// An identifier that stands for itself: printable bytes other than `%`, and not `-`.

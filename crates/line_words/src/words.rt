@@ -2,15 +2,16 @@
 
 ghost use Rattle.std.specs.Prelude.{◌≡◌, [], ◌∷◌, MatchOption};
 ghost use Rattle.std.specs.Option.{option_copied, option_map};
-ghost use Rattle.policy_model.specs.Words.{words, moment_word, expiry_word, kind_word, allow_word, priority_word, dash_word, hash_word, identifier_word, platform_word};
+ghost use Rattle.req_tree.specs.HashWord.{hash_word};
+ghost use Rattle.session_model.specs.Words.{words, moment_word, expiry_word, kind_word, allow_word, priority_word, dash_word, identifier_word, platform_word};
 
 use crate::reading::{
-    is_dash, read_allow, read_expiry, read_hash, read_identifier, read_kind, read_moment,
+    is_dash, read_allow, read_expiry, read_identifier, read_kind, read_moment,
     read_platform, read_priority,
 };
 use crate::split::split_word;
 use authority_table::{Kind, Moment, Priority};
-use req_tree::{Hash20, Identifier};
+use req_tree::{Hash20, Identifier, read_hash};
 
 /// What is left of a line. After its last word nothing is left, which isn't one empty word.
 #[derive(Drop)]
@@ -21,7 +22,7 @@ pub struct Words<'a> {
 impl<'a> Words<'a> {
     ghost use Rattle.line_words.specs.Left.{words_left};
     ghost use Rattle.line_words.specs.Taken.{IsTaken};
-    ghost use Rattle.policy_model.specs.Lines.{Request, no_more};
+    ghost use Rattle.session_model.specs.Lines.{Request, no_more};
     ghost use Rattle.req_tree.specs.Subject.{identifier_bytes};
     ghost use Rattle.authority_table.specs.Kind.{kind_of};
 

@@ -1,4 +1,3 @@
-mod WorkedRows
 pub mod RuleLaws
 pub mod IdLaws
 pub mod OutcomeLaws

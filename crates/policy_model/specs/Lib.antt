@@ -7,8 +7,6 @@ pub mod Changes
 pub mod Refusals
 pub mod Edits
 pub mod History
-pub mod Words
-pub mod Lines
 pub mod Replies
-pub mod Session
 pub mod Laws
+pub mod Keys

@@ -1,7 +1,7 @@
 -- The texts of replies. This project's own.
 use Rattle.std.specs.Prelude.{ℕ, List, ◌++◌, Bool, Option, Some, None, if◌then◌else◌, codes, decimal}
 use Rattle.req_tree.specs.Subject.{Subject}
-use Rattle.req_tree.specs.WordText.{word_text}
+use Rattle.line_text.specs.WordText.{word_text}
 use Rattle.policy_model.specs.Outcomes.{Verdict}
 use Rattle.policy_model.specs.Tables.{Answer, done, repeated, key_reused, no_rule, table_full, receipts_full, disable_full}
 

@@ -1,6 +1,6 @@
 -- The canonical words of rules and edits. This project's own, after the options of spctl(8).
 use Rattle.std.specs.Prelude.{ℕ, zero, suc, ◌+◌, ◌/◌, ◌%◌, ◌^◌, ℤ, pos, int_lt, unsigned_abs, List, [], ◌∷◌, ◌++◌, Bool, Option, Some, None, if◌then◌else◌, codes, decimal, ◌==◌}
-use Rattle.req_tree.specs.WordText.{word_text}
+use Rattle.line_text.specs.WordText.{word_text}
 use Rattle.policy_model.specs.Rules.{Kind, execute, install, document}
 use Rattle.policy_model.specs.Contents.{NewRow, Which, by_id, by_label, Selector, Content, add, remove, enable, disable, expire, switch}
 

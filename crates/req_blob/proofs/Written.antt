@@ -32,6 +32,10 @@ is_plain tree bytes can has short is =
 pub can_encode : (tree : Tree) (bytes : List ℕ) → IsSpelling tree bytes → IsEncodable tree
 can_encode tree bytes is = record { shallow = is.shallow; spellable = spelled_can tree is.expression is.spelled }
 
+pub found_can : (bytes : List ℕ) (r : Result Req OpsFault) → IfOk r (λ req. IsSpelling (tree_of req) bytes) → IfOk r (λ req. IsEncodable (tree_of req))
+found_can bytes (Ok req) h = can_encode (tree_of req) bytes h
+found_can bytes (Err e) h = tt
+
 -- ---- sizes
 
 pub long_size : (n : ℕ) (tree : Tree) → n ≡ min (length (plain tree)) 1048577 → 1048576 < 12 + n → 1048576 < length (plain_blob tree)

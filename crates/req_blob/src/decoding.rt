@@ -3,6 +3,7 @@
 ghost use Rattle.std.specs.Prelude.{◌≡◌, ◌≤◌, length, IfOk, Ok};
 ghost use Rattle.req_tree.specs.Tree.{Tree, tree_of};
 ghost use Rattle.req_blob.specs.Spelling.{IsSpelling};
+ghost use Rattle.req_blob.specs.Encoding.{IsEncodable};
 ghost use Rattle.req_blob.specs.Reading.{Gives};
 ghost use Rattle.req_blob.specs.Decoding as spec;
 
@@ -29,6 +30,8 @@ pub fn decode(alloc: Global, bytes: &[u8]) -> Result<Req, OpsFault>
     ensures found { IfOk result (λ req. IsSpelling (tree_of req) bytes.now) }
     // What is spelled so is read, unless memory is wanting.
     ensures only { (tree : Tree) → IsSpelling tree bytes.now → Gives tree_of result (Ok tree) }
+    // What is read can be written again.
+    ensures encodable { IfOk result (λ req. IsEncodable (tree_of req)) }
     // Which fault it is, and where.
     ensures exact { Gives tree_of result (spec.decoded bytes.now) }
 {
@@ -79,9 +82,22 @@ fn body_at(alloc: Global, size: u32, body: &[u8]) -> Result<(Req, &[u8]), OpsFau
 }
 
 /// The requirement, where no bytes are left behind its expression nor behind its blob.
-#[tactic(auto, unfolding(crate::specs::Decoding::ended))]
 fn ended(size: u32, req: Req, left: &[u8], rest: &[u8]) -> Result<Req, OpsFault>
     ensures { Gives tree_of result (spec.ended size (tree_of req, left.now) rest.now) }
+{
+    match check_end(size, left, rest) {
+        Ok(()) => Ok(req),
+        Err(fault) => {
+            drop(req);
+            Err(fault)
+        }
+    }
+}
+
+/// Whether no bytes are left behind an expression nor behind its blob, whatever it says.
+#[tactic(auto, unfolding(crate::specs::Decoding::ended))]
+fn check_end(size: u32, left: &[u8], rest: &[u8]) -> Result<(), OpsFault>
+    ensures { (tree : Tree) → Gives (λ _. tree) result (spec.ended size (tree, left.now) rest.now) }
 {
     if !left.is_empty() {
         return Err(OpsFault::Trailing {
@@ -91,5 +107,5 @@ fn ended(size: u32, req: Req, left: &[u8], rest: &[u8]) -> Result<Req, OpsFault>
     if !rest.is_empty() {
         return Err(OpsFault::Trailing { at: size });
     }
-    Ok(req)
+    Ok(())
 }

@@ -12,7 +12,7 @@ ghost use Rattle.req_blob.specs.Reading.{Gives};
 use crate::decoding::{MAGIC, MOST_BYTES};
 use crate::fault::OpsFault;
 use crate::size::plain_size;
-use crate::writing::{put_datum, put_hash, put_match, put_oid, put_signed, put_unpadded, put_word};
+use crate::writing::{put_datum, put_hash, put_match, put_signed, put_unpadded, put_word};
 use req_tree::{Bytes, Hash20, Match, Oid, Req};
 use std::alloc::{AllocError, Global};
 
@@ -194,12 +194,12 @@ fn put_cert_oid(
 ) -> Result<(), AllocError>
     ensures plain { OnOk result (out.new.items ≡ out.old.items ++ (word op ++ (signed_word slot ++ (datum oid.now ++ match_text test.now)))) }
     ensures slot { IsSlot slot }
-    ensures oid { OnOk result (IsOidBytes oid.now) }
+    ensures oid { IsOidBytes oid.now }
 {
+    let bytes = oid.as_slice();
     put_number(out, op, slot)?;
-    put_oid(out, oid)?;
-    put_match(out, test)?;
-    Ok(())
+    put_datum(out, bytes)?;
+    put_match(out, test)
 }
 
 fn put_skipped(out: &mut Vec<u8>, op: u32, skipped: &Bytes) -> Result<(), AllocError>

@@ -1,7 +1,7 @@
 //! Why bytes are no requirement, and why a requirement has no bytes.
 
 ghost use Rattle.std.specs.Prelude.{◌≡◌, ◌+◌, ◌≤◌, ◌++◌, codes, length, decimal};
-ghost use Rattle.req_tree.specs.LineText.{line_bytes};
+ghost use Rattle.line_text.specs.LineText.{line_bytes};
 ghost use Rattle.req_blob.specs.FaultText.{op_text};
 
 use cs_blob::BlobFault;
@@ -42,12 +42,12 @@ pub enum OpsFault {
 
 impl OpsFault {
     ghost use Rattle.std.specs.Prelude.{◌≡◌, ◌+◌, ◌≤◌, ◌++◌, length};
-    ghost use Rattle.req_tree.specs.LineText.{line_bytes};
+    ghost use Rattle.line_text.specs.LineText.{line_bytes};
     ghost use Rattle.req_blob.specs.FaultText.{ops_fault_text};
 
     /// Appends the refusal's number, its name and its fields; nothing for want of memory.
     pub fn line_into(&self, out: &mut LineText)
-        requires { length (line_bytes out.old) ≤ 300 }
+        requires { length (line_bytes out.old) ≤ 500 }
         ensures text { line_bytes out.new ≡ line_bytes out.old ++ ops_fault_text self.now }
         ensures length { length (line_bytes out.new) ≤ length (line_bytes out.old) + 100 }
     {
@@ -80,7 +80,7 @@ impl OpsFault {
 }
 
 fn push_field(out: &mut LineText, name: &[u8], number: u32)
-    requires { length (line_bytes out.old) + length name.now ≤ 450 }
+    requires { length (line_bytes out.old) + length name.now ≤ 650 }
     ensures text { line_bytes out.new ≡ line_bytes out.old ++ (name.now ++ decimal number) }
     ensures length { length (line_bytes out.new) ≤ length (line_bytes out.old) + (length name.now + 20) }
 {
@@ -91,7 +91,7 @@ fn push_field(out: &mut LineText, name: &[u8], number: u32)
 /// Appends an opcode's word in hexadecimal.
 #[tactic(auto, unfolding(cs_blob::specs::Numbers::word))]
 fn push_op(out: &mut LineText, op: u32)
-    requires { length (line_bytes out.old) ≤ 400 }
+    requires { length (line_bytes out.old) ≤ 600 }
     ensures text { line_bytes out.new ≡ line_bytes out.old ++ (codes " op=" ++ op_text op) }
     ensures length { length (line_bytes out.new) ≤ length (line_bytes out.old) + 14 }
 {

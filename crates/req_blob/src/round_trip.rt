@@ -32,7 +32,11 @@ pub fn respell(alloc: Global, bytes: &[u8]) -> Result<Bytes, OpsFault>
     ensures fault { IfErr result (λ fault. fault ≢ OpsFault.OutOfMemory → decoded bytes.now ≡ Err fault) }
 {
     match decode(alloc, bytes) {
-        Ok(req) => encode(alloc, &req),
+        Ok(req) => {
+            let again = encode(alloc, &req);
+            drop(req);
+            again
+        }
         Err(fault) => Err(fault),
     }
 }

@@ -45,10 +45,8 @@ pub(crate) fn req_at(
 fn both_at(alloc: Global, size: u32, depth: u32, bytes: &[u8]) -> Result<(Req, &[u8]), OpsFault>
     ensures { Gives (λ x. (tree_of x.0, x.1.now)) result (spec.both_at (spec.req_at size depth) bytes.now) }
 {
-    let (left, rest) = req_at(alloc, size, depth, bytes)?;
-    let left = Box::new(alloc, left)?;
-    let (right, rest) = req_at(alloc, size, depth, rest)?;
-    let right = Box::new(alloc, right)?;
+    let (left, rest) = boxed_at(alloc, size, depth, bytes)?;
+    let (right, rest) = boxed_at(alloc, size, depth, rest)?;
     Ok((Req::Both { left, right }, rest))
 }
 
@@ -57,10 +55,8 @@ fn both_at(alloc: Global, size: u32, depth: u32, bytes: &[u8]) -> Result<(Req, &
 fn either_at(alloc: Global, size: u32, depth: u32, bytes: &[u8]) -> Result<(Req, &[u8]), OpsFault>
     ensures { Gives (λ x. (tree_of x.0, x.1.now)) result (spec.either_at (spec.req_at size depth) bytes.now) }
 {
-    let (left, rest) = req_at(alloc, size, depth, bytes)?;
-    let left = Box::new(alloc, left)?;
-    let (right, rest) = req_at(alloc, size, depth, rest)?;
-    let right = Box::new(alloc, right)?;
+    let (left, rest) = boxed_at(alloc, size, depth, bytes)?;
+    let (right, rest) = boxed_at(alloc, size, depth, rest)?;
     Ok((Req::Either { left, right }, rest))
 }
 
@@ -69,8 +65,7 @@ fn either_at(alloc: Global, size: u32, depth: u32, bytes: &[u8]) -> Result<(Req,
 fn negate_at(alloc: Global, size: u32, depth: u32, bytes: &[u8]) -> Result<(Req, &[u8]), OpsFault>
     ensures { Gives (λ x. (tree_of x.0, x.1.now)) result (spec.negate_at (spec.req_at size depth) bytes.now) }
 {
-    let (inner, rest) = req_at(alloc, size, depth, bytes)?;
-    let inner = Box::new(alloc, inner)?;
+    let (inner, rest) = boxed_at(alloc, size, depth, bytes)?;
     Ok((Req::Negate { inner }, rest))
 }
 
@@ -87,7 +82,21 @@ fn skip_next_at(
     ensures { Gives (λ x. (tree_of x.0, x.1.now)) result (spec.skip_next_at (spec.req_at size depth) size op bytes.now) }
 {
     let (skipped, rest) = unpadded_at(alloc, size, bytes)?;
-    let (inner, rest) = req_at(alloc, size, depth, rest)?;
-    let inner = Box::new(alloc, inner)?;
+    let (inner, rest) = boxed_at(alloc, size, depth, rest)?;
     Ok((Req::SkipNext { op, skipped, inner }, rest))
+}
+
+/// The same in a box.
+#[cycle(req)]
+fn boxed_at(
+    alloc: Global,
+    size: u32,
+    depth: u32,
+    bytes: &[u8],
+) -> Result<(Box<Req>, &[u8]), OpsFault>
+    ensures { Gives (λ x. (tree_of x.0.value, x.1.now)) result (spec.req_at size depth bytes.now) }
+{
+    let (req, rest) = req_at(alloc, size, depth, bytes)?;
+    let req = Box::new(alloc, req)?;
+    Ok((req, rest))
 }

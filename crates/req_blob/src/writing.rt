@@ -14,26 +14,24 @@ pub(crate) fn put_match(out: &mut Vec<u8>, test: &Match) -> Result<(), AllocErro
     ensures { OnOk result (out.new.items ≡ out.old.items ++ match_text test.now) }
 {
     match test {
-        Match::Exists => put_word(out, 0)?,
-        Match::Equal(value) => put_comparison(out, 1, value)?,
-        Match::Contains(value) => put_comparison(out, 2, value)?,
-        Match::Begins(value) => put_comparison(out, 3, value)?,
-        Match::Ends(value) => put_comparison(out, 4, value)?,
-        Match::Less(value) => put_comparison(out, 5, value)?,
-        Match::Greater(value) => put_comparison(out, 6, value)?,
-        Match::LessEqual(value) => put_comparison(out, 7, value)?,
-        Match::GreaterEqual(value) => put_comparison(out, 8, value)?,
-        Match::Absent => put_word(out, 14)?,
+        Match::Exists => put_word(out, 0),
+        Match::Equal(value) => put_comparison(out, 1, value),
+        Match::Contains(value) => put_comparison(out, 2, value),
+        Match::Begins(value) => put_comparison(out, 3, value),
+        Match::Ends(value) => put_comparison(out, 4, value),
+        Match::Less(value) => put_comparison(out, 5, value),
+        Match::Greater(value) => put_comparison(out, 6, value),
+        Match::LessEqual(value) => put_comparison(out, 7, value),
+        Match::GreaterEqual(value) => put_comparison(out, 8, value),
+        Match::Absent => put_word(out, 14),
     }
-    Ok(())
 }
 
 fn put_comparison(out: &mut Vec<u8>, suffix: u32, value: &Bytes) -> Result<(), AllocError>
     ensures { OnOk result (out.new.items ≡ out.old.items ++ (word suffix ++ datum value.now)) }
 {
     put_word(out, suffix)?;
-    put_datum(out, value.as_slice())?;
-    Ok(())
+    put_datum(out, value.as_slice())
 }
 
 /// Four bytes, the highest first.

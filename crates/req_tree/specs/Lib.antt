@@ -4,10 +4,9 @@ pub mod TreeCode
 pub mod Facts
 pub mod NumericOrder
 pub mod Meaning
-pub mod LineText
-pub mod WordText
 pub mod Depth
 pub mod Normal
 pub mod Oid
 pub mod OidReading
 pub mod TreeSet
+pub mod HashWord

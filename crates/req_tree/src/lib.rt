@@ -2,15 +2,12 @@
 //! that they speak of.
 #![tactic(auto)]
 
-mod bytes;
 mod fault;
 mod hash;
 mod identifier;
 pub mod laws;
-mod line_text;
 mod matching;
 mod meaning;
-mod normal;
 mod oid;
 mod oid_bytes;
 mod oid_text;
@@ -22,11 +19,10 @@ mod subject;
 #[cfg(test)]
 mod tests;
 
-pub use bytes::Bytes;
+pub use line_text::{Bytes, LineText};
 pub use fault::{OidBytesFault, OidFault};
-pub use hash::Hash20;
+pub use hash::{Hash20, read_hash};
 pub use identifier::Identifier;
-pub use line_text::LineText;
 pub use matching::Match;
 pub use oid::Oid;
 pub use oid_bytes::{is_oid, oid_from_bytes};

@@ -1,9 +1,9 @@
 //! The test that a requirement makes of a value.
 
-use crate::bytes::Bytes;
+use line_text::Bytes;
 
 /// What has to hold of the value of a key: that it is there, or how its text stands to another.
-#[derive(Debug, Drop, PartialEq, Eq, Hash)]
+#[derive(Drop, PartialEq, Eq)]
 pub enum Match {
     Exists,
     Absent,

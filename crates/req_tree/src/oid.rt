@@ -4,8 +4,7 @@ ghost use Rattle.std.specs.Prelude.{◌≡◌, true};
 ghost use Rattle.req_tree.specs.Oid.{IsOidBytes};
 ghost use Rattle.req_tree.specs.OidReading.{is_oid};
 
-use crate::bytes::Bytes;
-use std::hash::{Hash, Hasher};
+use line_text::Bytes;
 use std::marker::Model;
 
 /// An object identifier: the contents of its BER encoding (ITU-T X.690, 8.19).
@@ -62,18 +61,4 @@ impl Eq for Oid {
     ghost use Rattle.std.specs.Cmp.Rules.{comparing};
 
     ghost laws = { Prim.search (comparing, rules) };
-}
-
-impl Hash for Oid {
-    ghost use Rattle.std.proofs.Common.{rules};
-    ghost use Rattle.std.specs.Hash as fed;
-    ghost use Rattle.std.specs.Cmp.Rules.{hashing};
-
-    ghost hash_input = { fed.slice fed.u8 };
-
-    ghost respects_eq = { Prim.search (hashing, rules) };
-
-    fn hash<H: Hasher>(&self, state: &mut H) {
-        self.as_slice().hash(state);
-    }
 }

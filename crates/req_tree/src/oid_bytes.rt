@@ -4,7 +4,7 @@ ghost use Rattle.std.specs.Prelude.{◌≡◌, ◌↔◌, ◌<◌, ◌++◌, ℕ
 ghost use Rattle.req_tree.specs.Oid.{IsOidBytes, HasNumbers, WritesNumber, IsFront};
 ghost use Rattle.req_tree.specs.OidReading as reading;
 
-use crate::bytes::Bytes;
+use line_text::Bytes;
 use crate::fault::OidBytesFault;
 use crate::oid::Oid;
 use std::alloc::{AllocError, Global};

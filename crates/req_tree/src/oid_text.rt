@@ -9,7 +9,7 @@ ghost use Rattle.std.specs.List.{flat_map};
 ghost use Rattle.std.specs.Str.{all_ascii_digits};
 ghost use Rattle.std.specs.Result.{result_map_both};
 
-use crate::bytes::Bytes;
+use line_text::Bytes;
 use crate::fault::OidFault;
 use crate::oid::Oid;
 use crate::oid_bytes::{number_at, push_number};

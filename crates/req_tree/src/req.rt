@@ -1,12 +1,12 @@
 //! The tree of a requirement, one variant for each opcode of the language.
 
-use crate::bytes::Bytes;
+use line_text::Bytes;
 use crate::hash::Hash20;
 use crate::matching::Match;
 use crate::oid::Oid;
 
 /// A requirement. A `slot` names a certificate of the chain: 0 is the leaf, -1 the anchor.
-#[derive(Debug, Drop, PartialEq, Eq, Hash)]
+#[derive(PartialEq, Eq)]
 pub enum Req {
     Never,
     Always,
@@ -87,4 +87,52 @@ pub enum Req {
         skipped: Bytes,
         inner: Box<Req>,
     },
+}
+
+impl Drop for Req {
+    fn drop(self) {
+        match self {
+            Req::Never => (),
+            Req::Always => (),
+            Req::Ident { value: _ } => (),
+            Req::AppleAnchor => (),
+            Req::AnchorHash { slot: _, hash: _ } => (),
+            Req::LegacyInfo { key: _, value: _ } => (),
+            Req::Both { left: _, right: _ } => (),
+            Req::Either { left: _, right: _ } => (),
+            Req::CdHash { hash: _ } => (),
+            Req::Negate { inner: _ } => (),
+            Req::InfoField { key: _, test } => drop(test),
+            Req::CertField {
+                slot: _,
+                key: _,
+                test,
+            } => drop(test),
+            Req::TrustedCert { slot: _ } => (),
+            Req::TrustedAny => (),
+            Req::CertOid {
+                slot: _,
+                oid: _,
+                test,
+            } => drop(test),
+            Req::AppleGeneric => (),
+            Req::EntitlementField { key: _, test } => drop(test),
+            Req::CertPolicy {
+                slot: _,
+                oid: _,
+                test,
+            } => drop(test),
+            Req::NamedAnchor { name: _ } => (),
+            Req::NamedCode { name: _ } => (),
+            Req::Platform { number: _ } => (),
+            Req::Notarized => (),
+            Req::LegacyDevId => (),
+            Req::SkipFalse { op: _, skipped: _ } => (),
+            Req::SkipNext {
+                op: _,
+                skipped: _,
+                inner: _,
+            } => (),
+        }
+    }
 }

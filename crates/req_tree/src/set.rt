@@ -9,7 +9,7 @@ use crate::req::Req;
 use std::marker::Model;
 
 /// At most one requirement for each type: 1 host, 2 guest, 3 designated, 4 library, 5 plugin.
-#[derive(Debug, Drop)]
+#[derive(Drop)]
 pub struct ReqSet {
     host: Option<Req>,
     guest: Option<Req>,

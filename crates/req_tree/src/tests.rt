@@ -109,57 +109,6 @@ fn trees_are_built_shared_and_kept(rt: HostRuntime) -> Result<(), Fail> {
     Ok(())
 }
 
-// (anchor and (notarized and unknown not info = x)) or (unknown or always), by hand.
-#[test]
-fn normal_forms_nest_to_the_left(rt: HostRuntime) -> Result<(), Fail> {
-    let alloc = rt.alloc();
-    let old = Req::LegacyInfo {
-        key: Bytes::copy_of(alloc, b"key")?,
-        value: Bytes::copy_of(alloc, b"x")?,
-    };
-    let skipped = Req::SkipNext {
-        op: 0x2000_0030,
-        skipped: Bytes::empty(alloc),
-        inner: Box::new(alloc, not(alloc, old)?)?,
-    };
-    let unknown = Req::SkipFalse {
-        op: 0x4000_0030,
-        skipped: Bytes::empty(alloc),
-    };
-    let chain = both(
-        alloc,
-        Req::AppleAnchor,
-        both(alloc, Req::Notarized, skipped)?,
-    )?;
-    let given = either(alloc, chain, either(alloc, unknown, Req::Always)?)?;
-    let new = Req::InfoField {
-        key: Bytes::copy_of(alloc, b"key")?,
-        test: Match::Equal(Bytes::copy_of(alloc, b"x")?),
-    };
-    let chain = both(alloc, Req::AppleAnchor, Req::Notarized)?;
-    let chain = both(alloc, chain, not(alloc, new)?)?;
-    let want = either(alloc, either(alloc, chain, Req::Never)?, Req::Always)?;
-    assert!(rt; given.into_normal(alloc)? == want);
-    Ok(())
-}
-
-fn both(alloc: Global, left: Req, right: Req) -> Result<Req, Fail> {
-    let left = Box::new(alloc, left)?;
-    let right = Box::new(alloc, right)?;
-    Ok(Req::Both { left, right })
-}
-
-fn either(alloc: Global, left: Req, right: Req) -> Result<Req, Fail> {
-    let left = Box::new(alloc, left)?;
-    let right = Box::new(alloc, right)?;
-    Ok(Req::Either { left, right })
-}
-
-fn not(alloc: Global, inner: Req) -> Result<Req, Fail> {
-    let inner = Box::new(alloc, inner)?;
-    Ok(Req::Negate { inner })
-}
-
 fn subject(alloc: Global) -> Result<Option<Subject>, Fail> {
     let name = Bytes::copy_of(alloc, b"com.example.app")?;
     let Some(identifier) = Identifier::of(name.as_slice()) else {

@@ -8,6 +8,9 @@ use Rattle.line_reader.specs.Lines.{text_of, with_lf}
 use Rattle.line_reader.specs.Limits.{IsWithin, RunsPast}
 use Rattle.line_session.specs.Ends as lines
 use Rattle.line_session.specs.Ends.{StopsBefore, AtWant}
+use Rattle.req_tree.specs.Facts.{no_facts}
+use Rattle.policy_model.specs.History.{fresh}
+use Rattle.desk_state.specs.Stands.{Stands}
 use Rattle.desk_state.specs.declared.desk.Desk.{Desk}
 use Rattle.spctl_cli.specs.declared.status.Status.{Status}
 use Rattle.spctl_cli.specs.declared.status.Status.TheVariants.{Fine, Usage, ReadFault, WriteFault, SessionTooLong, OutOfMemory}
@@ -15,69 +18,69 @@ use Rattle.spctl_cli.specs.Answered.{HasAnswered}
 use Rattle.spctl_cli.specs.Headline.{IsSession}
 use Rattle.spctl_cli.specs.Ends.{StopsWith, BreaksAtReply, BreaksAtFault, SessionEnds, UsageEnds, GavePast}
 
-pub session_fine : (desk : Desk) (left now written sent : Option (List ℕ)) → lines.EndsFine (HasAnswered desk) left now written sent → IsSession left now written sent
-session_fine desk left now written sent e = record {
+pub session_fine : (start desk : Desk) (st : Stands start (fresh no_facts) []) (left now written sent : Option (List ℕ)) → lines.EndsFine (HasAnswered start desk) left now written sent → IsSession left now written sent
+session_fine start desk st left now written sent e = record {
   bytes = e.bytes;
   replies = e.replies;
-  history = e.answered.history;
+  history = (e.answered (fresh no_facts) [] st).0;
   taken = e.taken;
   at_end = e.at_end;
   within = e.within;
   put = e.put;
-  session = e.answered.session;
+  session = (e.answered (fresh no_facts) [] st).1;
 }
 
 -- the answered lines, and then a last text
-pub session_stops : (Why : List (List ℕ) → List ℕ → Type 0) (last : List ℕ) (desk : Desk) (left now written mid sent : Option (List ℕ))
-    → StopsBefore Why (HasAnswered desk) left now written mid → Appends mid sent last → StopsWith Why last left now written sent
-session_stops Why last desk left now written mid sent e put = record {
+pub session_stops : (Why : List (List ℕ) → List ℕ → Type 0) (last : List ℕ) (start desk : Desk) (st : Stands start (fresh no_facts) []) (left now written mid sent : Option (List ℕ))
+    → StopsBefore Why (HasAnswered start desk) left now written mid → Appends mid sent last → StopsWith Why last left now written sent
+session_stops Why last start desk st left now written mid sent e put = record {
   lines = e.lines;
   rest = e.rest;
   replies = e.replies;
-  history = e.answered.history;
+  history = (e.answered (fresh no_facts) [] st).0;
   taken = e.taken;
   whole = e.whole;
   within = e.within;
   why = e.why;
   put = Appends-trans written mid sent (text_of e.replies) last e.put put;
-  session = e.answered.session;
+  session = (e.answered (fresh no_facts) [] st).1;
 }
 
 -- the answered lines, and then a front of a fault's line
-pub session_cut : (Why : List (List ℕ) → List ℕ → Type 0) (text : List ℕ) (desk : Desk) (left now written mid sent : Option (List ℕ))
-    → StopsBefore Why (HasAnswered desk) left now written mid → AppendsFront mid sent (with_lf text) → BreaksAtFault Why text left now written sent
-session_cut Why text desk left now written mid sent e front = (front.0, session_stops Why (take front.0 (with_lf text)) desk left now written mid sent e front.2)
+pub session_cut : (Why : List (List ℕ) → List ℕ → Type 0) (text : List ℕ) (start desk : Desk) (st : Stands start (fresh no_facts) []) (left now written mid sent : Option (List ℕ))
+    → StopsBefore Why (HasAnswered start desk) left now written mid → AppendsFront mid sent (with_lf text) → BreaksAtFault Why text left now written sent
+session_cut Why text start desk st left now written mid sent e front = (front.0, session_stops Why (take front.0 (with_lf text)) start desk st left now written mid sent e front.2)
 
 -- the answered lines alone
-pub session_starves : (desk : Desk) (left now written sent : Option (List ℕ)) → StopsBefore AtWant (HasAnswered desk) left now written sent → StopsWith AtWant [] left now written sent
-session_starves desk left now written sent e = record {
+pub session_starves : (start desk : Desk) (st : Stands start (fresh no_facts) []) (left now written sent : Option (List ℕ)) → StopsBefore AtWant (HasAnswered start desk) left now written sent → StopsWith AtWant [] left now written sent
+session_starves start desk st left now written sent e = record {
   lines = e.lines;
   rest = e.rest;
   replies = e.replies;
-  history = e.answered.history;
+  history = (e.answered (fresh no_facts) [] st).0;
   taken = e.taken;
   whole = e.whole;
   within = e.within;
   why = e.why;
   put = subst (Appends written sent) (sym (append-nil (text_of e.replies))) e.put;
-  session = e.answered.session;
+  session = (e.answered (fresh no_facts) [] st).1;
 }
 
-pub session_breaks : (desk : Desk) (left now written sent : Option (List ℕ)) → lines.BreaksOff (HasAnswered desk) left now written sent → BreaksAtReply left now written sent
-session_breaks desk left now written sent e = record {
+pub session_breaks : (start desk : Desk) (st : Stands start (fresh no_facts) []) (left now written sent : Option (List ℕ)) → lines.BreaksOff (HasAnswered start desk) left now written sent → BreaksAtReply left now written sent
+session_breaks start desk st left now written sent e = record {
   lines = e.lines;
   line = e.line;
   rest = e.rest;
   replies = e.replies;
   reply = e.reply;
   count = e.count;
-  history = e.answered.history;
+  history = (e.answered (fresh no_facts) [] st).0;
   taken = e.taken;
   whole = e.whole;
   within = e.within;
   ended = e.ended;
   put = e.put;
-  session = e.answered.session;
+  session = (e.answered (fresh no_facts) [] st).1;
 }
 
 -- bytes that are within the limits don't run past them

@@ -1,9 +1,9 @@
 -- What an edit's line makes of the words after each of its first ones.
 use Rattle.std.proofs.Common.{ℕ, ℤ, List, Bool, false, Option}
 use Rattle.policy_model.specs.Rules.{Kind}
-use Rattle.policy_model.specs.Words.{kind_word, allow_word}
+use Rattle.session_model.specs.Words.{kind_word, allow_word}
 use Rattle.policy_model.specs.Contents.{add}
-use Rattle.policy_model.specs.Lines.{Request, edit, word, requirement_rest}
+use Rattle.session_model.specs.Lines.{Request, edit, word, requirement_rest}
 use Rattle.spctl_cli.specs.AddFront.{terms_words}
 
 abbrev pub after_terms : List ℕ → Kind → Bool → ℤ → Option ℕ → List ℕ → List (List ℕ) → Option Request

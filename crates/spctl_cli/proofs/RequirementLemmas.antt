@@ -4,14 +4,15 @@ use Rattle.std.specs.Option.{option_map}
 use Rattle.std.specs.List.{onto_first}
 use Rattle.std.proofs.lemmas.List.Splits.{join_with_byte-slice_split}
 use Rattle.req_tree.specs.Tree.{Tree}
-use Rattle.policy_model.specs.Words.{words, spaced}
+use Rattle.session_model.specs.Words.{words, spaced}
 use Rattle.std.specs.Str.{bytes_eq}
 use Rattle.std.proofs.Math.Seq.{take-length}
 use Rattle.std.proofs.lemmas.Slice.Eq.{bytes_eq-Decides}
 use Rattle.std.proofs.Math.Bool.{and-false}
-use Rattle.policy_model.specs.Words.{hash_word}
+use Rattle.req_tree.specs.HashWord.{hash_word}
 use Rattle.req_tree.specs.Tree.{cd_hash}
-use Rattle.policy_model.specs.Lines.{requirement, requirement_rest, cd_hash_text}
+use Rattle.req_grammar.specs.Requirement.{requirement, cd_hash_text}
+use Rattle.session_model.specs.Lines.{requirement_rest}
 
 -- some pieces, of which there is a first
 abbrev HasFirst : List (List ℕ) → Type 0

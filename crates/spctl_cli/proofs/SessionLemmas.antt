@@ -3,14 +3,13 @@ use Rattle.std.proofs.Common.{◌≡◌, ℕ, suc, ◌≤◌, List, [], ◌∷�
 use Rattle.std.specs.Option.{unwrap_or}
 use Rattle.std.proofs.lemmas.List.{take_all, length-take}
 use Rattle.std.proofs.lemmas.Bool.Decides.{nat_tests}
-use Rattle.req_tree.specs.Facts.{no_facts}
-use Rattle.policy_model.specs.History.{Event, Opening, fresh}
+use Rattle.policy_model.specs.History.{Event, Opening}
 use Rattle.desk_state.specs.declared.desk.Desk.{Desk}
 use Rattle.desk_state.specs.Stands.{Stands}
 use Rattle.spctl_cli.specs.Answered.{HasAnswered, HasReplied}
-use Rattle.policy_model.specs.Words.{words}
-use Rattle.policy_model.specs.Lines.{Request, not_built, request_of, request_of_words}
-use Rattle.policy_model.specs.Session.{Session, Replies}
+use Rattle.session_model.specs.Words.{words}
+use Rattle.session_model.specs.Lines.{Request, not_built, request_of, request_of_words}
+use Rattle.session_model.specs.Session.{Session, Replies}
 
 -- a session goes on by one line
 pub session_more : (o : Opening) (h : List Event) (lines replies : List (List ℕ)) (mid after : List Event) (line reply : List ℕ)
@@ -43,23 +42,20 @@ pub request_of-front : (line : List ℕ) → request_of (take 8193 line) ≡ req
 request_of-front line = front_request 8192 line refl
 
 -- a desk that replied to what a line asks for answered one line more
-pub answered_more : (old new : Desk) (request : Request) (reply whole : List ℕ) (lines replies : List (List ℕ))
-    → request ≡ request_of (take 8193 whole) → HasReplied old new request reply → HasAnswered old lines replies
-    → HasAnswered new (lines ++ whole ∷ []) (replies ++ reply ∷ [])
-answered_more old new request reply whole lines replies asks replied answered =
-    let step = replied (fresh no_facts) answered.history answered.stands in
-    record {
-      history = step.0;
-      session = session_more (fresh no_facts) [] lines replies answered.history step.0 whole reply answered.session
-          (subst (λ (r : Request). Replies (fresh no_facts) answered.history r reply step.0) (asks ∙ request_of-front whole) step.1);
-      stands = step.2;
-    }
+pub answered_more : (start old new : Desk) (request : Request) (reply whole : List ℕ) (lines replies : List (List ℕ))
+    → request ≡ request_of (take 8193 whole) → HasReplied old new request reply → HasAnswered start old lines replies
+    → HasAnswered start new (lines ++ whole ∷ []) (replies ++ reply ∷ [])
+answered_more start old new request reply whole lines replies asks replied answered = λ o h stands.
+    let before = answered o h stands in
+    let step = replied o before.0 before.2 in
+    (step.0, session_more o h lines replies before.0 step.0 whole reply before.1
+        (subst (λ (r : Request). Replies o before.0 r reply step.0) (asks ∙ request_of-front whole) step.1), step.2)
 
 -- a desk that still stands where it stood answered the same lines
-pub answered_still : (old new : Desk) (lines replies : List (List ℕ)) → ((o : Opening) (h : List Event) → Stands old o h → Stands new o h)
-    → HasAnswered old lines replies → HasAnswered new lines replies
-answered_still old new lines replies still answered = record {
-  history = answered.history;
-  session = answered.session;
-  stands = still (fresh no_facts) answered.history answered.stands;
-}
+pub answered_still : (start old new : Desk) (lines replies : List (List ℕ)) → ((o : Opening) (h : List Event) → Stands old o h → Stands new o h)
+    → HasAnswered start old lines replies → HasAnswered start new lines replies
+answered_still start old new lines replies still answered = λ o h stands. let before = answered o h stands in (before.0, before.1, still o before.0 before.2)
+
+-- nothing was answered yet
+pub answered_none : (desk : Desk) → HasAnswered desk desk [] []
+answered_none desk = λ o h stands. (h, refl, stands)

@@ -3,8 +3,8 @@ use Rattle.std.specs.Prelude.{ℕ, ℤ, List, [], false, Option}
 use Rattle.req_tree.specs.Tree.{Tree}
 use Rattle.authority_table.specs.Kind.{kind_of}
 use Rattle.policy_model.specs.Contents.{add}
-use Rattle.policy_model.specs.Words.{priority_word, expiry_word, dash_word}
-use Rattle.policy_model.specs.Lines.{Request, edit, word}
+use Rattle.session_model.specs.Words.{priority_word, expiry_word, dash_word}
+use Rattle.session_model.specs.Lines.{Request, edit, word}
 use Rattle.desk_state.specs.EditKey.{key_bytes}
 use Rattle.spctl_cli.specs.declared.add_front.AddFront.{AddFront}
 

@@ -3,7 +3,7 @@ use Rattle.std.specs.Prelude.{◌≡◌, ℕ, ◌⊎◌, List, [], ◌∷◌, �
 use Rattle.std.specs.Io.KnownBytes.{Appends, Consumes}
 use Rattle.req_tree.specs.Facts.{no_facts}
 use Rattle.policy_model.specs.History.{Event, fresh}
-use Rattle.policy_model.specs.Session.{Session}
+use Rattle.session_model.specs.Session.{Session}
 use Rattle.line_reader.specs.Lines.{text_of, with_lf, HasNoLf}
 use Rattle.line_reader.specs.Limits.{IsWithin, RunsPast}
 use Rattle.line_session.specs.Ends.{EndsLine, AtReadFault, AtLimit, AtWant}
@@ -38,7 +38,7 @@ pub record BreaksAtReply (left now written sent : Option (List ℕ)) : Type 0 wh
   pub taken : Consumes left now (text_of lines ++ (line ++ rest))
   pub whole : All HasNoLf (lines ++ line ∷ [])
   pub within : IsWithin (text_of lines ++ (line ++ take 1 rest))
-  pub ended : EndsLine rest now
+  pub ended : EndsLine line rest now
   pub put : Appends written sent (text_of replies ++ take count (with_lf reply))
   pub session : Session (fresh no_facts) [] (lines ++ line ∷ []) (replies ++ reply ∷ []) history
 

@@ -3,7 +3,7 @@ use Rattle.std.specs.Prelude.{ℕ, List, [], Option}
 use Rattle.std.specs.Io.KnownBytes.{Appends, Consumes, IsAtEnd}
 use Rattle.req_tree.specs.Facts.{no_facts}
 use Rattle.policy_model.specs.History.{Event, fresh}
-use Rattle.policy_model.specs.Session.{Session}
+use Rattle.session_model.specs.Session.{Session}
 use Rattle.line_reader.specs.Lines.{lines_of, text_of}
 use Rattle.line_reader.specs.Limits.{IsWithin}
 

@@ -1,6 +1,6 @@
 -- What follows from the definitions alone; each is proved on a function of src/laws.rt.
 use Rattle.std.specs.Prelude.{◌≡◌, ℕ, List, take}
-use Rattle.policy_model.specs.Lines.{request_of}
+use Rattle.session_model.specs.Lines.{request_of}
 
 -- the held front of a line asks for the same as the line
 abbrev pub FrontAsksTheSame : Type 0

@@ -1,7 +1,7 @@
 -- The program's requests as those of the definitions.
 use Rattle.std.specs.Prelude.{Option}
 use Rattle.std.specs.Option.{option_map, unwrap_or}
-use Rattle.policy_model.specs.Lines.{Request, tick, assess, edit, not_built}
+use Rattle.session_model.specs.Lines.{Request, tick, assess, edit, not_built}
 use Rattle.desk_state.specs.Ask.{ask_of}
 use Rattle.desk_state.specs.Edit.{edit_of}
 use Rattle.spctl_cli.specs.declared.request.Request as code

@@ -3,9 +3,10 @@
 ghost use Rattle.std.specs.Prelude.{◌≡◌, ℕ, ℤ, List, [], Option, Some, IfOk};
 ghost use Rattle.std.specs.Option.{option_map, option_and_then};
 ghost use Rattle.req_tree.specs.Tree.{tree_of};
-ghost use Rattle.policy_model.specs.Words.{key_word};
-ghost use Rattle.policy_model.specs.Lines.{add_words, requirement, requirement_rest};
-ghost use Rattle.policy_model.specs.Lines as model;
+ghost use Rattle.session_model.specs.Words.{key_word};
+ghost use Rattle.req_grammar.specs.Requirement.{requirement};
+ghost use Rattle.session_model.specs.Lines.{add_words, requirement_rest};
+ghost use Rattle.session_model.specs.Lines as model;
 ghost use Rattle.line_words.specs.Left.{words_left};
 ghost use Rattle.line_words.specs.Taken.{IsTaken};
 ghost use Rattle.desk_state.specs.EditKey.{key_bytes};
@@ -81,8 +82,8 @@ impl AddFront {
         ensures { IfOk result
             (λ edit. model.edit (edit_of edit) ≡ adds self text.now (tree_of req)) }
     {
-        let text = Bytes::copy_of(alloc, text)?;
         let tree = SharedReq::new(alloc, req)?;
+        let text = Bytes::copy_of(alloc, text)?;
         let rule = NewRule {
             kind: self.kind,
             allow: self.allow,

@@ -2,8 +2,8 @@
 
 ghost use Rattle.std.specs.Prelude.{◌≡◌, IfOk};
 ghost use Rattle.std.specs.Option.{option_map};
-ghost use Rattle.policy_model.specs.Lines.{request_of, request_of_words, tick_words, assess_words, add_words};
-ghost use Rattle.policy_model.specs.Lines as model;
+ghost use Rattle.session_model.specs.Lines.{request_of, request_of_words, tick_words, assess_words, add_words};
+ghost use Rattle.session_model.specs.Lines as model;
 ghost use Rattle.line_words.specs.Left.{words_left};
 ghost use Rattle.desk_state.specs.Ask.{ask_of};
 ghost use Rattle.desk_state.specs.Edit.{edit_of};

@@ -3,10 +3,9 @@
 ghost use Rattle.std.specs.Prelude.{◌≡◌};
 ghost use Rattle.std.specs.Option.{option_map};
 ghost use Rattle.req_tree.specs.Tree.{tree_of};
-ghost use Rattle.policy_model.specs.Lines.{requirement, cd_hash_text};
+ghost use Rattle.req_grammar.specs.Requirement.{requirement, cd_hash_text};
 
-use line_words::read_hash;
-use req_tree::Req;
+use req_tree::{Req, read_hash};
 
 /// How long a requirement on the hash of code is.
 const CD_HASH_LENGTH: usize = 50;

@@ -9,11 +9,12 @@ ghost use Rattle.spctl_cli.specs.Headline.{IsSession};
 ghost use Rattle.spctl_cli.specs.Ends.{SessionEnds, UsageEnds, GavePast};
 
 use crate::command::is_session;
-use crate::desk_lines::DeskLines;
+use crate::desk_lines::session_lines;
+use desk_state::Desk;
 use crate::last_line::write_last;
 use crate::status::Status;
 use gk_io::{Failed, Sink, Source};
-use line_session::{Ended, run_session};
+use line_session::Ended;
 use std::alloc::Global;
 
 /// Does what the words of the command line say, of which the program's name is none.
@@ -94,8 +95,10 @@ fn session<S: Source, W: Sink>(alloc: Global, input: &mut S, output: &mut W) -> 
     ensures input_later { S.faults input.old ≤ S.faults input.new }
     ensures output_later { W.faults output.old ≤ W.faults output.new }
 {
-    let mut desk = DeskLines::fresh(alloc);
-    match run_session(alloc, &mut desk, input, output) {
+    let mut desk = Desk::fresh(alloc);
+    let ended = session_lines(alloc, &mut desk, input, output);
+    drop(desk);
+    match ended {
         Ended::Fine => Status::Fine,
         Ended::WriteFault => Status::WriteFault,
         Ended::OutOfMemory => Status::OutOfMemory,

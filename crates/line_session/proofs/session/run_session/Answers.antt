@@ -1,4 +1,5 @@
-use Rattle.line_session.proofs.EndLemmas.{stops_at_once, too_long, read_within}
+use Rattle.std.proofs.Common.{[]}
+use Rattle.line_session.proofs.EndLemmas.{is_answered, stops_at_once, too_long, read_within}
 use Rattle.line_session.proofs.session.run_session.Goals as goal
 
 pub returns-in-Ok-clause-fine : goal.returns-in-Ok-clause-fine
@@ -24,3 +25,9 @@ returns-in-Ok-clause-past g c = λ bytes told past is. read_within _ _ _ _ _ byt
 
 pub returns-in-Err-clause-out_of_memory : goal.returns-in-Err-clause-out_of_memory
 returns-in-Err-clause-out_of_memory g c = λ is. stops_at_once _ _ _ c.requires
+
+pub returns-in-Ok-clause-answered : goal.returns-in-Ok-clause-answered
+returns-in-Ok-clause-answered g c = is_answered _ _ _ _ _ _ c.all_lines.ensures.ends
+
+pub returns-in-Err-clause-answered : goal.returns-in-Err-clause-answered
+returns-in-Err-clause-answered g c = ([], [], c.requires)

@@ -1,6 +1,6 @@
 -- Each word that is read hands the words after it to what the form makes of them.
 use Rattle.std.proofs.Common.{◌≡◌, ◌∙◌, None, rules}
-use Rattle.policy_model.specs.Lines.{add_words}
+use Rattle.session_model.specs.Lines.{add_words}
 use Rattle.line_words.specs.Left.{words_left}
 use Rattle.authority_table.specs.Kind.{kind_of}
 use Rattle.desk_state.specs.EditKey.{key_bytes}

@@ -1,7 +1,7 @@
 use Rattle.std.proofs.Common.{◌≡◌, ℕ, List, [], ◌∷◌, ◌++◌, ap, ◌∙◌}
 use Rattle.std.specs.Prelude.{codes, decimal}
 use Rattle.std.proofs.lemmas.List.{append_assoc}
-use Rattle.req_tree.specs.LineText.{line_bytes}
+use Rattle.line_text.specs.LineText.{line_bytes}
 use Rattle.req_ops.proofs.fault.SetFault.line_into.Goals as goal
 
 pushed : (old a b half new : List ℕ) → new ≡ half ++ b → half ≡ old ++ a → new ≡ old ++ (a ++ b)

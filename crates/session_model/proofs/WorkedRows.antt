@@ -11,9 +11,9 @@ use Rattle.policy_model.specs.Texts.{places, add_front, content_text, priority_t
 use Rattle.policy_model.specs.Tables.{Tables}
 use Rattle.policy_model.specs.Edits.{does}
 use Rattle.policy_model.specs.History.{Event, tick, edit, fresh, edit_answer, ask_answer}
-use Rattle.policy_model.specs.Lines.{request_of, not_built}
+use Rattle.session_model.specs.Lines.{request_of, not_built}
 use Rattle.policy_model.specs.Replies.{verdict_text, answer_text, origin_on}
-use Rattle.policy_model.specs.Session.{Session}
+use Rattle.session_model.specs.Session.{Session}
 
 -- some history has these replies to these lines
 abbrev Answers : List (List ℕ) → List (List ℕ) → Type 0

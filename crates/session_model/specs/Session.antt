@@ -1,6 +1,6 @@
 -- What a session is: lines, the reply to each, and the history that they make. This project's own.
 use Rattle.std.specs.Prelude.{◌≡◌, List, [], ◌∷◌, ◌++◌, ℕ}
-use Rattle.policy_model.specs.Lines.{Request, tick, assess, edit, not_built, request_of}
+use Rattle.session_model.specs.Lines.{Request, tick, assess, edit, not_built, request_of}
 use Rattle.policy_model.specs.History.{Event, Opening, now_of, ask_answer, edit_answer}
 use Rattle.policy_model.specs.History as event
 use Rattle.policy_model.specs.Replies.{now_text, verdict_text, origin_on, answer_text, not_built_text}

@@ -1,8 +1,8 @@
 use Rattle.std.proofs.Common.{◌≡◌, ◌+◌, ◌*◌, ◌≤◌, ◌++◌, length, take}
 use Rattle.std.specs.List.{flat_map}
-use Rattle.req_tree.specs.LineText.{line_bytes}
-use Rattle.req_tree.specs.WordText.{byte_text}
-use Rattle.req_tree.proofs.line_text.LineText.push_each.Given as goal
+use Rattle.line_text.specs.LineText.{line_bytes}
+use Rattle.line_text.specs.WordText.{byte_text}
+use Rattle.line_text.proofs.line.LineText.push_each.Given as goal
 
 abbrev pub invariant-loop-byte : goal.invariant-loop-byte
 invariant-loop-byte l = record {

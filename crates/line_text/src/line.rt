@@ -2,9 +2,9 @@
 
 ghost use Rattle.std.specs.Prelude.{◌≡◌, ◌+◌, ◌*◌, ◌<◌, ◌≤◌, [], ◌∷◌, ◌++◌, length, decimal};
 ghost use Rattle.std.specs.List.{flat_map};
-ghost use Rattle.req_tree.specs.LineText.{line_bytes};
-ghost use Rattle.req_tree.specs.WordText.{word_text, byte_text};
-ghost use Rattle.req_tree.specs.WordText as spec;
+ghost use Rattle.line_text.specs.LineText.{line_bytes};
+ghost use Rattle.line_text.specs.WordText.{word_text, byte_text};
+ghost use Rattle.line_text.specs.WordText as spec;
 
 use arrayvec::ArrayVec;
 use itoa::Buffer;

@@ -1,9 +1,11 @@
 -- What a session's line asks for. This project's own.
 use Rattle.std.specs.Prelude.{ℕ, List, [], ◌∷◌, ◌++◌, length, take, drop, true, false, ◌&&◌, nat_le, Option, Some, None, option_map, option_and_then, unwrap_or, if◌then◌else◌, codes, bytes_eq}
-use Rattle.req_tree.specs.Tree.{Tree, never, always, cd_hash}
+use Rattle.req_tree.specs.Tree.{Tree}
+use Rattle.req_tree.specs.HashWord.{hash_word}
+use Rattle.req_grammar.specs.Requirement.{requirement}
 use Rattle.policy_model.specs.Outcomes.{Ask}
 use Rattle.policy_model.specs.Contents.{add, Edit}
-use Rattle.policy_model.specs.Words.{words, spaced, moment_word, expiry_word, kind_word, allow_word, priority_word, dash_word, key_word, hash_word, identifier_word, platform_word}
+use Rattle.session_model.specs.Words.{words, spaced, moment_word, expiry_word, kind_word, allow_word, priority_word, dash_word, key_word, identifier_word, platform_word}
 
 -- what a line asks for
 pub data Request : Type 0 where
@@ -22,19 +24,6 @@ word read next (w ∷ ws) = option_and_then (λ a. next a ws) (read w)
 abbrev pub no_more : {A : Type 0} → A → List (List ℕ) → Option A
 no_more a [] = Some a
 no_more a (w ∷ ws) = None
-
--- cdhash H", 40 hexadecimal digits and "
-abbrev pub cd_hash_text : List ℕ → Option Tree
-cd_hash_text text =
-    if bytes_eq (take 9 text) (codes "cdhash H" ++ 34 ∷ []) && bytes_eq (drop 49 text) (34 ∷ [])
-    then option_map cd_hash (hash_word (take 40 (drop 9 text))) else None
-
--- the requirements that are read so far, byte for byte
-abbrev pub requirement : List ℕ → Option Tree
-requirement text =
-    if bytes_eq text (codes "always") then Some always
-    else if bytes_eq text (codes "never") then Some never
-    else cd_hash_text text
 
 -- all that follows, spaces included, is a requirement: of at least one word, which may be empty
 abbrev pub requirement_rest : {B : Type 0} → (List ℕ → Tree → B) → List (List ℕ) → Option B

@@ -2,10 +2,9 @@
 use Rattle.std.specs.Prelude.{ℕ, ◌*◌, ℤ, pos, neg_ℤ, List, [], ◌∷◌, length, Bool, true, false, ◌&&◌, ◌||◌, not, ◌==◌, nat_le, Option, Some, None, option_map, if◌then◌else◌, codes, bytes_eq}
 use Rattle.std.specs.List.{slice_split, join_with_byte, list_all}
 use Rattle.std.specs.Char.{is_ascii_digit}
-use Rattle.std.specs.Result.{result_ok}
-use Rattle.hex.specs.Hex.{decode_sized}
 use Rattle.req_tree.specs.NumericOrder.{number_of}
-use Rattle.req_tree.specs.WordText.{is_plain}
+use Rattle.line_text.specs.WordText.{is_plain}
+use Rattle.policy_model.specs.Keys.{is_key}
 use Rattle.policy_model.specs.Rules.{Kind, execute, install, document}
 
 -- the pieces between single spaces: two spaces in a row have an empty word between them
@@ -55,22 +54,9 @@ priority_word (b ∷ bytes) = if b == 45 then option_map (λ n. neg_ℤ (pos n))
 abbrev pub dash_word : List ℕ → Option (List ℕ)
 dash_word word = if bytes_eq word (codes "-") then Some [] else None
 
--- letters, digits, dot, underscore and dash
-abbrev pub is_key_byte : ℕ → Bool
-is_key_byte b =
-    (nat_le 97 b && nat_le b 122) || (nat_le 65 b && nat_le b 90) || is_ascii_digit b || (b == 46) || (b == 95) || (b == 45)
-
--- 1 to 64 such bytes
-abbrev pub is_key : List ℕ → Bool
-is_key word = nat_le 1 (length word) && nat_le (length word) 64 && list_all is_key_byte word
-
 -- an edit's key, which stands for itself
 abbrev pub key_word : List ℕ → Option (List ℕ)
 key_word word = if is_key word then Some word else None
-
--- 40 hexadecimal digits
-abbrev pub hash_word : List ℕ → Option (List ℕ)
-hash_word word = result_ok (decode_sized word 20)
 
 -- an identifier that stands for itself
 abbrev pub identifier_word : List ℕ → Option (List ℕ)

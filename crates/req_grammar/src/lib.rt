@@ -1,0 +1,2 @@
+//! Which texts are requirements, and of which tree: definitions alone.
+#![tactic(auto)]
