@@ -2,7 +2,9 @@
 #![tactic(auto)]
 
 mod bytes;
+mod limits;
 mod line;
 
 pub use bytes::Bytes;
+pub use limits::{FRONT_LIMIT, LINE_HELD, LINE_LIMIT, LINE_ROOM};
 pub use line::LineText;

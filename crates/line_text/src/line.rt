@@ -1,18 +1,20 @@
-//! A line of text under construction, held in place: up to 1,024 bytes.
+//! A line of text under construction, held in place.
 
 ghost use Rattle.std.specs.Prelude.{◌≡◌, ◌+◌, ◌*◌, ◌<◌, ◌≤◌, [], ◌∷◌, ◌++◌, length, decimal};
 ghost use Rattle.std.specs.List.{flat_map};
 ghost use Rattle.line_text.specs.LineText.{line_bytes};
 ghost use Rattle.line_text.specs.WordText.{word_text, byte_text};
 ghost use Rattle.line_text.specs.WordText as spec;
+ghost use Rattle.line_text.specs.declared.limits.TheConstants.{LINE_ROOM};
 
+use crate::limits::LINE_ROOM;
 use arrayvec::ArrayVec;
 use itoa::Buffer;
 
-/// A reply or a canonical text, which takes no memory.
+/// A reply or a canonical text of up to `LINE_ROOM` bytes. It takes no memory.
 #[derive(Debug, Drop)]
 pub struct LineText {
-    bytes: ArrayVec<u8, 1024>,
+    bytes: ArrayVec<u8, LINE_ROOM>,
 }
 
 impl LineText {
@@ -27,7 +29,7 @@ impl LineText {
 
     pub fn as_slice(&self) -> &[u8]
         ensures bytes { result.now ≡ line_bytes self.now }
-        ensures fits { length result.now ≤ 1024 }
+        ensures fits { length result.now ≤ LINE_ROOM }
     {
         self.bytes.as_slice()
     }
@@ -39,7 +41,7 @@ impl LineText {
     }
 
     pub fn push(&mut self, byte: u8)
-        requires { length (line_bytes self.old) + 1 ≤ 1024 }
+        requires { length (line_bytes self.old) + 1 ≤ LINE_ROOM }
         ensures text { line_bytes self.new ≡ line_bytes self.old ++ byte ∷ [] }
         ensures length { length (line_bytes self.new) ≡ length (line_bytes self.old) + 1 }
     {
@@ -47,7 +49,7 @@ impl LineText {
     }
 
     pub fn push_all(&mut self, more: &[u8])
-        requires { length (line_bytes self.old) + length more.now ≤ 1024 }
+        requires { length (line_bytes self.old) + length more.now ≤ LINE_ROOM }
         ensures text { line_bytes self.new ≡ line_bytes self.old ++ more.now }
         ensures length { length (line_bytes self.new) ≡ length (line_bytes self.old) + length more.now }
     {
@@ -56,7 +58,7 @@ impl LineText {
 
     /// Appends a number's decimal digits, of which there are at most 20.
     pub fn push_number(&mut self, number: u64)
-        requires { length (line_bytes self.old) + 20 ≤ 1024 }
+        requires { length (line_bytes self.old) + 20 ≤ LINE_ROOM }
         ensures text { line_bytes self.new ≡ line_bytes self.old ++ decimal number }
         ensures length { length (line_bytes self.new) ≤ length (line_bytes self.old) + 20 }
     {
@@ -64,10 +66,21 @@ impl LineText {
         self.push_all(buffer.format(number).as_bytes());
     }
 
+    /// Appends a field of an answer or a refusal: its name, with the spaces and the `=` that belong to it,
+    /// and a number's decimal digits.
+    pub fn push_field(&mut self, name: &[u8], number: u64)
+        requires { length (line_bytes self.old) + (length name.now + 20) ≤ LINE_ROOM }
+        ensures text { line_bytes self.new ≡ line_bytes self.old ++ (name.now ++ decimal number) }
+        ensures length { length (line_bytes self.new) ≤ length (line_bytes self.old) + (length name.now + 20) }
+    {
+        self.push_all(name);
+        self.push_number(number);
+    }
+
     /// Appends bytes as one word without spaces: `-` for none, `%2D` for the one byte `-`, and else
     /// each byte that isn't printable or is `%` as `%` and two hexadecimal digits.
     pub fn push_word(&mut self, word: &[u8])
-        requires { length (line_bytes self.old) + (3 * length word.now + 3) ≤ 1024 }
+        requires { length (line_bytes self.old) + (3 * length word.now + 3) ≤ LINE_ROOM }
         ensures text { line_bytes self.new ≡ line_bytes self.old ++ word_text word.now }
         ensures length { length (line_bytes self.new) ≤ length (line_bytes self.old) + (3 * length word.now + 3) }
     {
@@ -79,7 +92,7 @@ impl LineText {
     }
 
     fn push_each(&mut self, word: &[u8])
-        requires { length (line_bytes self.old) + 3 * length word.now ≤ 1024 }
+        requires { length (line_bytes self.old) + 3 * length word.now ≤ LINE_ROOM }
         ensures text { line_bytes self.new ≡ line_bytes self.old ++ flat_map byte_text word.now }
         ensures length { length (line_bytes self.new) ≤ length (line_bytes self.old) + 3 * length word.now }
     {
@@ -89,7 +102,7 @@ impl LineText {
     }
 
     fn push_byte_text(&mut self, byte: u8)
-        requires { length (line_bytes self.old) + 3 ≤ 1024 }
+        requires { length (line_bytes self.old) + 3 ≤ LINE_ROOM }
         ensures text { line_bytes self.new ≡ line_bytes self.old ++ byte_text byte }
         ensures length { length (line_bytes self.new) ≤ length (line_bytes self.old) + 3 }
     {
