@@ -12,7 +12,7 @@ use Rattle.req_tree.specs.Subject.{Subject}
 use Rattle.req_tree.specs.Facts.{no_facts}
 use Rattle.policy_model.specs.Rules.{Kind}
 use Rattle.policy_model.specs.Contents.{Edit}
-use Rattle.policy_model.specs.Tables.{Tables, Receipt, Answer, Effect}
+use Rattle.policy_model.specs.Tables.{Tables, Receipt, Answer, IsAccepted, Effect}
 use Rattle.policy_model.specs.Refusals.{refusal}
 use Rattle.policy_model.specs.Edits.{does, does_at, at_new, kept}
 use Rattle.policy_model.specs.Outcomes.{Ask, Verdict, verdict, verdict_on, verdict_by, outcome_by}
@@ -25,7 +25,7 @@ use Rattle.desk_state.specs.declared.desk.Desk.{Desk}
 use Rattle.desk_state.specs.declared.edit.Content.{Content}
 use Rattle.desk_state.specs.declared.edit.Content.TheVariants.{Add}
 use Rattle.desk_state.specs.Edit.{content_of}
-use Rattle.desk_state.specs.Answer.{IsDone, IsAccepted}
+use Rattle.desk_state.specs.Answer.{IsDone}
 use Rattle.desk_state.specs.Stands.{tables, moment_of, Stands}
 
 -- one more event

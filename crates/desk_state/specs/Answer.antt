@@ -2,7 +2,7 @@
 use Rattle.std.specs.Prelude.{ℕ, List, [], Option, Some, None, Result, Ok, Err, if◌then◌else◌, ◌≡◌}
 use Rattle.policy_model.specs.Tables as model
 use Rattle.policy_model.specs.Tables.{done, repeated, key_reused, table_full, Effect, Tables}
-use Rattle.policy_model.specs.Replies.{answer_text}
+use Rattle.policy_model.specs.ReplyTexts.{answer_text}
 use Rattle.desk_state.specs.declared.answer.Answer as code
 use Rattle.desk_state.specs.declared.fault.EditFault as fault
 use Rattle.desk_state.specs.declared.fault.EditFault.TheVariants.{KeyReused, TableFull, OutOfMemory}
@@ -31,8 +31,3 @@ given_text (Some a) = answer_text a
 abbrev pub IsDone : Effect → Tables → Tables → Option model.Answer → Type 0
 IsDone effect old new None = new ≡ old
 IsDone effect old new (Some a) = (a ≡ effect.answer) × (new ≡ effect.tables)
-
--- an edit that was not refused, nor done before
-abbrev pub IsAccepted : model.Answer → Type 0
-IsAccepted (done n k) = Unit {0}
-IsAccepted other = ⊥

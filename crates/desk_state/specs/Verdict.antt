@@ -1,7 +1,7 @@
 -- The program's verdicts as those of the definitions.
 use Rattle.authority_table.specs.Label.{label_bytes}
 use Rattle.policy_model.specs.Outcomes.{Verdict}
-use Rattle.policy_model.specs.Replies.{Origin, rules, cache, unsigned}
+use Rattle.policy_model.specs.ReplyTexts.{Origin, rules, cache, unsigned}
 use Rattle.desk_state.specs.declared.verdict.Verdict as code
 use Rattle.desk_state.specs.declared.verdict.Origin as code_origin
 use Rattle.desk_state.specs.declared.verdict.Origin.TheVariants.{Rules, Cache, Unsigned}

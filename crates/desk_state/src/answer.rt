@@ -2,7 +2,7 @@
 
 ghost use Rattle.std.specs.Prelude.{◌≡◌, ◌+◌, ◌≤◌, ◌++◌, length};
 ghost use Rattle.line_text.specs.LineText.{line_bytes};
-ghost use Rattle.policy_model.specs.Replies.{answer_text, numbers_text};
+ghost use Rattle.policy_model.specs.ReplyTexts.{answer_text, numbers_text};
 
 use req_tree::LineText;
 

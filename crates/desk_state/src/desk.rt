@@ -36,14 +36,15 @@ impl Desk {
     ghost use Rattle.policy_model.specs.Rules.{Kind};
     ghost use Rattle.policy_model.specs.Outcomes as policy;
     ghost use Rattle.policy_model.specs.Contents.{add};
+    ghost use Rattle.policy_model.specs.Tables.{IsAccepted};
     ghost use Rattle.policy_model.specs.Refusals.{refusal};
     ghost use Rattle.policy_model.specs.Edits.{does, at_new};
-    ghost use Rattle.policy_model.specs.Replies.{origin_on, rules};
+    ghost use Rattle.policy_model.specs.ReplyTexts.{origin_on, rules};
     ghost use Rattle.authority_table.specs.Label.{label_bytes};
     ghost use Rattle.authority_table.specs.Found.{governing_row, latent_row};
     ghost use Rattle.desk_state.specs.Ask.{ask_of};
     ghost use Rattle.desk_state.specs.Edit.{edit_of, new_row};
-    ghost use Rattle.desk_state.specs.Answer.{given, IsDone, IsAccepted};
+    ghost use Rattle.desk_state.specs.Answer.{given, IsDone};
     ghost use Rattle.desk_state.specs.Verdict.{verdict_of, origin_of};
     ghost use Rattle.desk_state.specs.Stands.{tables, moment_of, with_both, Stands};
 

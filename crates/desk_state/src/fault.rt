@@ -2,7 +2,7 @@
 
 ghost use Rattle.std.specs.Prelude.{◌≡◌, ◌+◌, ◌≤◌, ◌++◌, length};
 ghost use Rattle.line_text.specs.LineText.{line_bytes};
-ghost use Rattle.policy_model.specs.Replies.{not_built_text};
+ghost use Rattle.policy_model.specs.ReplyTexts.{not_built_text};
 
 use crate::answer::numbers_into;
 use req_tree::LineText;

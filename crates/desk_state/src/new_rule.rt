@@ -32,7 +32,7 @@ impl NewRule {
 
     /// The rule of this number; it shares the requirement's tree.
     pub fn rule(&self, alloc: Global, id: RuleId) -> Result<Rule, AllocError>
-        ensures { IfOk result (λ rule. row_of rule ≡ model.row_of id (new_row self.now)) }
+        ensures { IfOk result (λ rule. row_of rule ≡ model.added_row id (new_row self.now)) }
     {
         let text = Bytes::copy_of(alloc, self.text.as_slice())?;
         let tree = self.tree.share()?;
@@ -60,7 +60,7 @@ impl NewRule {
         out.push_all(b"add ");
         out.push_all(self.kind.word());
         out.push(b' ');
-        out.push_all(allow_word(self.allow));
+        out.push_all(verdict_word(self.allow));
         out.push(b' ');
         self.priority.line_into(out);
         out.push(b' ');
@@ -73,7 +73,7 @@ impl NewRule {
     }
 }
 
-fn allow_word(allow: bool) -> &'static [u8]
+fn verdict_word(allow: bool) -> &'static [u8]
     ensures word { result.now ≡ verdict_word allow }
     ensures length { length result.now ≤ 5 }
 {

@@ -2,7 +2,7 @@
 
 ghost use Rattle.std.specs.Prelude.{◌≡◌, ◌+◌, ◌≤◌, ◌++◌, length};
 ghost use Rattle.line_text.specs.LineText.{line_bytes};
-ghost use Rattle.policy_model.specs.Replies.{verdict_text, number_text, accepted_text, override_text, origin_text, cache_text};
+ghost use Rattle.policy_model.specs.ReplyTexts.{verdict_text, number_text, accepted_text, override_text, origin_text, fate_text, fate_by};
 
 use authority_table::{Label, Moment, RuleId};
 use req_tree::LineText;
@@ -41,10 +41,10 @@ impl Verdict {
     /// Appends the reply's line, without its end.
     pub fn line_into(&self, out: &mut LineText)
         requires { length (line_bytes out.old) ≤ 400 }
-        ensures text { line_bytes out.new ≡ line_bytes out.old ++ verdict_text (verdict_of self.now) (origin_of self.now.origin) }
+        ensures text { line_bytes out.new ≡ line_bytes out.old ++ verdict_text (verdict_of self.now) (origin_of self.now.origin) (fate_by (origin_of self.now.origin)) }
         ensures length { length (line_bytes out.new) ≤ length (line_bytes out.old) + 620 }
     {
-        out.push_all(allow_word(self.allow));
+        out.push_all(accepted_word(self.allow));
         out.push_all(b" at=");
         out.push_number(self.at.get());
         out.push_all(b" rule=");
@@ -58,7 +58,7 @@ impl Verdict {
         out.push_all(b" source=");
         out.push_all(self.origin.word());
         out.push_all(b" cache=");
-        out.push_all(self.origin.cache_word());
+        out.push_all(self.origin.fate_word());
     }
 }
 
@@ -77,8 +77,8 @@ impl Origin {
     }
 
     /// What became of the offer to keep the outcome: nothing is kept yet.
-    fn cache_word(self) -> &'static [u8]
-        ensures word { result.now ≡ cache_text (origin_of self) }
+    fn fate_word(self) -> &'static [u8]
+        ensures word { result.now ≡ fate_text (fate_by (origin_of self)) }
         ensures length { length result.now ≤ 4 }
     {
         match self {
@@ -89,7 +89,7 @@ impl Origin {
     }
 }
 
-fn allow_word(allow: bool) -> &'static [u8]
+fn accepted_word(allow: bool) -> &'static [u8]
     ensures word { result.now ≡ accepted_text allow }
     ensures length { length result.now ≤ 8 }
 {

@@ -10,7 +10,7 @@ use Rattle.std.proofs.lemmas.List.Elements.{All-filter, All-push, All-map, All-c
 use Rattle.policy_model.specs.Rules.{Row, Rank, rank_of, Before, IsFirst, HasNone, IsFirstOf}
 use Rattle.policy_model.specs.Contents.{Content, add, remove, enable, disable, expire, switch, Edit}
 use Rattle.policy_model.specs.Tables.{Tables, Receipt, Answer}
-use Rattle.policy_model.specs.Changes.{selects, change, with_count, with_expiry, row_of, rows_after}
+use Rattle.policy_model.specs.Changes.{selects, change, with_count, with_expiry, added_row, rows_after}
 use Rattle.policy_model.specs.Refusals.{refusal}
 use Rattle.policy_model.specs.Edits.{does, does_at, at_new, kept}
 use Rattle.policy_model.specs.History.{Event, tick, ask, offer, edit, edit_failed, edit_starved, look, tables_step, tables_after, HasOwnIds, empty_tables}
@@ -39,7 +39,7 @@ numbered_change : (sel : Row → Bool) (f : Row → Row) → ((r : Row) → (f r
 numbered_change sel f same n xs h = numbered_map (λ r. if sel r then f r else r) (λ r. same_ids f same r (sel r)) n xs h
 
 rising_after : (n : ℕ) (c : Content) (rows : List Row) → Rising rows → All (λ (r : Row). r.id ≤ n) rows → Rising (rows_after (n + 1) c rows)
-rising_after n (add r) rows h below = all_pairs_push (λ (a b : Row). a.id < b.id) rows (row_of (n + 1) r) h (λ k d l. omega (arith, below k d l))
+rising_after n (add r) rows h below = all_pairs_push (λ (a b : Row). a.id < b.id) rows (added_row (n + 1) r) h (λ k d l. omega (arith, below k d l))
 rising_after n (remove s) rows h below = AllPairs-filter (λ (a b : Row). a.id < b.id) (λ r. not (selects s r)) rows h
 rising_after n (enable s) rows h below = rising_change (selects s) (with_count 0) (λ r. refl) rows h
 rising_after n (disable s) rows h below = rising_change (selects s) (λ r. with_count (r.disabled + 1) r) (λ r. refl) rows h
@@ -50,7 +50,7 @@ more_below : (n : ℕ) (rows : List Row) → All (λ (r : Row). r.id ≤ n) rows
 more_below n rows h k d l = omega (arith, h k d l)
 
 below_after : (n : ℕ) (c : Content) (rows : List Row) → All (λ (r : Row). r.id ≤ n) rows → All (λ (r : Row). r.id ≤ n + 1) (rows_after (n + 1) c rows)
-below_after n (add r) rows below = All-push (λ (x : Row). x.id ≤ n + 1) rows (row_of (n + 1) r) (more_below n rows below) (omega arith)
+below_after n (add r) rows below = All-push (λ (x : Row). x.id ≤ n + 1) rows (added_row (n + 1) r) (more_below n rows below) (omega arith)
 below_after n (remove s) rows below = All-filter (λ r. not (selects s r)) (λ (x : Row). x.id ≤ n + 1) rows (more_below n rows below)
 below_after n (enable s) rows below = numbered_change (selects s) (with_count 0) (λ r. refl) (n + 1) rows (more_below n rows below)
 below_after n (disable s) rows below = numbered_change (selects s) (λ r. with_count (r.disabled + 1) r) (λ r. refl) (n + 1) rows (more_below n rows below)

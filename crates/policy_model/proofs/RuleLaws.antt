@@ -175,3 +175,7 @@ passes_last P rs x (Some s) f p = last_of_two P rs x s (is_before (rank_of s) (r
 pub fails_last : (P : Row → Type 0) (rs : List Row) (x : Row) (o : Option Row) → IsFirstOf P rs o → (P x → ⊥) → IsFirstOf P (rs ++ x ∷ []) o
 fails_last P rs x None none not' = all_more (λ s. P s → ⊥) rs x none not'
 fails_last P rs x (Some s) f not' = last_later P rs x s (λ p b. not' p) f
+
+-- one that isn't before the row that was found
+pub later_last : (P : Row → Type 0) (rs : List Row) (x s : Row) → IsFirstOf P rs (Some s) → (Before (rank_of x) (rank_of s) → ⊥) → IsFirstOf P (rs ++ x ∷ []) (Some s)
+later_last P rs x s f not' = last_later P rs x s (λ p b. not' b) f

@@ -19,8 +19,8 @@ abbrev pub selects : Selector → Row → Bool
 selects s r = named_by s.which r && in_kind s.kind r
 
 -- the added rule has the edit's number as its id, and is enabled
-abbrev pub row_of : ℕ → NewRow → Row
-row_of id n = record {
+abbrev pub added_row : ℕ → NewRow → Row
+added_row id n = record {
   id = id;
   kind = n.kind;
   allow = n.allow;
@@ -48,7 +48,7 @@ change test f rows = map (λ r. if test r then f r else r) rows
 
 -- the rows after the edit of number n
 abbrev pub rows_after : ℕ → Content → List Row → List Row
-rows_after n (add r) rows = rows ++ row_of n r ∷ []
+rows_after n (add r) rows = rows ++ added_row n r ∷ []
 rows_after n (remove s) rows = filter (λ r. not (selects s r)) rows
 rows_after n (enable s) rows = change (selects s) (with_count 0) rows
 rows_after n (disable s) rows = change (selects s) (λ r. with_count (r.disabled + 1) r) rows
@@ -57,7 +57,7 @@ rows_after n (switch on) rows = rows
 
 -- the rows that it touches
 abbrev pub touched_by : ℕ → Content → List Row → List Row
-touched_by n (add r) rows = row_of n r ∷ []
+touched_by n (add r) rows = added_row n r ∷ []
 touched_by n (remove s) rows = filter (selects s) rows
 touched_by n (enable s) rows = filter (selects s) rows
 touched_by n (disable s) rows = filter (selects s) rows

@@ -1,6 +1,7 @@
 -- What an edit asks for. This project's own, after --add, --remove, --enable, --disable of spctl(8).
-use Rattle.std.specs.Prelude.{ℕ, ℤ, List, Bool, Option}
+use Rattle.std.specs.Prelude.{◌≢◌, ℕ, ℤ, ◌≤◌, List, length, All, Bool, Option}
 use Rattle.req_tree.specs.Tree.{Tree}
+use Rattle.policy_model.specs.declared.limits.TheConstants.{MOST_TEXT_BYTES}
 use Rattle.policy_model.specs.Rules.{Kind}
 
 -- the rule that an edit adds; its text is what was given for its tree
@@ -14,6 +15,11 @@ pub record NewRow : Type 0 where
   pub inhibit : Bool
   pub text : List ℕ
   pub tree : Tree
+
+-- the text of a rule's requirement: it isn't too long, and stands on one line
+pub record IsRuleText (text : List ℕ) : Type 0 where
+  pub short : length text ≤ MOST_TEXT_BYTES
+  pub one_line : All (λ b. b ≢ 10) text
 
 -- an id or a label
 pub data Which : Type 0 where

@@ -1,10 +1,10 @@
 -- What has happened on a desk, and where it stands after that. This project's own.
-use Rattle.std.specs.Prelude.{ℕ, ◌<◌, ◌≤◌, max, List, [], ◌∷◌, length, All, AllPairs, true}
+use Rattle.std.specs.Prelude.{◌≡◌, ℕ, ◌<◌, ◌≤◌, max, List, [], ◌∷◌, length, All, AllPairs, true, false, bytes_eq}
 use Rattle.req_tree.specs.Subject.{Subject}
 use Rattle.req_tree.specs.Facts.{Facts}
 use Rattle.policy_model.specs.Rules.{Row, Kind}
 use Rattle.policy_model.specs.Contents.{Edit}
-use Rattle.policy_model.specs.Tables.{Tables, Answer}
+use Rattle.policy_model.specs.Tables.{Receipt, Tables, Answer}
 use Rattle.policy_model.specs.Edits.{does}
 use Rattle.policy_model.specs.Outcomes.{Outcome, Ask, Verdict, verdict}
 
@@ -95,6 +95,10 @@ edit_answer o h e = (does (tables_of o h) e).answer
 pub record HasOwnIds (t : Tables) : Type 0 where
   pub apart : AllPairs (λ (a b : Row). a.id < b.id) t.rows
   pub numbered : All (λ (r : Row). r.id ≤ length t.receipts) t.rows
+
+-- no two receipts have one key
+pub record HasOwnKeys (t : Tables) : Type 0 where
+  pub apart : AllPairs (λ (a b : Receipt). bytes_eq a.key b.key ≡ false) t.receipts
 
 -- no rules, no receipts, assessments switched on
 abbrev pub empty_tables : Tables

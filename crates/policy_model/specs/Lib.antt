@@ -7,6 +7,6 @@ pub mod Changes
 pub mod Refusals
 pub mod Edits
 pub mod History
-pub mod Replies
+pub mod ReplyTexts
 pub mod Laws
 pub mod Keys

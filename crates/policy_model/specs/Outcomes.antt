@@ -3,6 +3,7 @@
 use Rattle.std.specs.Prelude.{ℕ, ◌+◌, List, Bool, true, false, not, ◌&&◌, ◌||◌, min, Option, Some, None, option_map, codes}
 use Rattle.req_tree.specs.Subject.{Subject}
 use Rattle.req_tree.specs.Facts.{Facts}
+use Rattle.policy_model.specs.declared.limits.TheConstants.{DEFAULT_SECONDS}
 use Rattle.policy_model.specs.Rules.{Row, Rank, Kind, rank_of, meets, first}
 
 -- governed: rank, allow, label, inhibit and the end of the rule that decides;
@@ -30,16 +31,16 @@ expiry_of (Some r) = r.expires
 abbrev pub governed_until : List Row → Kind → ℕ → Row → Option ℕ
 governed_until rows kind m r = r.expires
 
--- how long a default denial of moment m stands: 60 seconds, and no longer than the latent rule
+-- how long a default denial of moment m stands: so many seconds, and no longer than the latent rule
 abbrev pub default_until : List Row → Kind → ℕ → Option Row → ℕ
-default_until rows kind m latent = at_most (m + 60) (expiry_of latent)
+default_until rows kind m latent = at_most (m + DEFAULT_SECONDS) (expiry_of latent)
 
 -- the outcome of a rule that governs, or of none and a latent one
 abbrev pub outcome_by : List Row → Kind → ℕ → Option Row → Option Row → Outcome
 outcome_by rows kind m (Some r) latent = governed (rank_of r) r.allow r.label r.inhibit (governed_until rows kind m r)
 outcome_by rows kind m None latent = default (option_map (λ r. r.id) latent) (latent_label latent) (default_until rows kind m latent)
 
--- what the rows say of a subject at m
+-- what the rows say of a subject at m; that it is the outcome of the rule that Governs is OutcomeIsRight of Laws.antt
 abbrev pub outcome : List Row → Kind → Subject → Facts → ℕ → Outcome
 outcome rows kind subject facts m =
     outcome_by rows kind m (first (meets false kind subject facts m) rows) (first (meets true kind subject facts m) rows)

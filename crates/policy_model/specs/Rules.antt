@@ -109,7 +109,7 @@ abbrev pub sooner : Row → Option Row → Row
 sooner r None = r
 sooner r (Some s) = if is_before (rank_of s) (rank_of r) then s else r
 
--- of the rows that pass, the one before all others
+-- of the rows that pass, the one before all others; that it is the one that Governs is OutcomeIsRight of Laws.antt
 abbrev pub first : (Row → Bool) → List Row → Option Row
 first test [] = None
 first test (r ∷ rows) = if test r then Some (sooner r (first test rows)) else first test rows

@@ -1,5 +1,5 @@
 -- What is kept of rules and edits, and what an edit answers. This project's own.
-use Rattle.std.specs.Prelude.{ℕ, List, Bool}
+use Rattle.std.specs.Prelude.{ℕ, List, Bool, ⊤}
 use Rattle.policy_model.specs.Rules.{Row}
 
 -- what is kept of an accepted edit: its number, its key, its canonical text, and how many rules it touched
@@ -24,6 +24,11 @@ pub data Answer : Type 0 where
   table_full : Answer
   receipts_full : Answer
   disable_full : ℕ → Answer
+
+-- the edit was accepted: it wasn't refused, and wasn't done before
+abbrev pub IsAccepted : Answer → Type 0
+IsAccepted (done n k) = ⊤
+IsAccepted other = ⊥
 
 -- an answer, the tables afterwards, and the rows that were touched, as they were before (an added one as it is)
 pub record Effect : Type 0 where

@@ -1,6 +1,7 @@
 -- The canonical words of rules and edits. This project's own, after the options of spctl(8).
 use Rattle.std.specs.Prelude.{ℕ, zero, suc, ◌+◌, ◌/◌, ◌%◌, ◌^◌, ℤ, pos, int_lt, unsigned_abs, List, [], ◌∷◌, ◌++◌, Bool, Option, Some, None, if◌then◌else◌, codes, decimal, ◌==◌}
 use Rattle.line_text.specs.WordText.{word_text}
+use Rattle.policy_model.specs.declared.limits.TheConstants.{UNIT}
 use Rattle.policy_model.specs.Rules.{Kind, execute, install, document}
 use Rattle.policy_model.specs.Contents.{NewRow, Which, by_id, by_label, Selector, Content, add, remove, enable, disable, expire, switch}
 
@@ -31,7 +32,7 @@ fraction_text part = if part == 0 then [] else 46 ∷ places 6 part
 -- a priority in millionths, printed in whole units with as many places as it needs
 abbrev pub priority_text : ℤ → List ℕ
 priority_text p =
-    (if int_lt p (pos 0) then 45 ∷ [] else []) ++ decimal (unsigned_abs p / 1000000) ++ fraction_text (unsigned_abs p % 1000000)
+    (if int_lt p (pos 0) then 45 ∷ [] else []) ++ decimal (unsigned_abs p / UNIT) ++ fraction_text (unsigned_abs p % UNIT)
 
 -- the word for the two flags, or - for none
 abbrev pub flags_text : Bool → Bool → List ℕ

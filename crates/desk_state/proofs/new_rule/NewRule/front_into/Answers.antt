@@ -19,7 +19,7 @@ returns-clause-text c =
       c.line_into.ensures.text,
       c.push-2.ensures.text,
       c.push_all-3.ensures.text,
-      c.allow_word.ensures.word,
+      c.verdict_word.ensures.word,
       c.push.ensures.text,
       c.push_all-2.ensures.text,
       c.word.ensures,

@@ -1,6 +1,6 @@
 use Rattle.std.proofs.Common.{arith}
 use Rattle.std.proofs.lemmas.Grind.{common_steps}
-use Rattle.policy_model.specs.Replies.{verdict_text}
+use Rattle.policy_model.specs.ReplyTexts.{verdict_text}
 use Rattle.desk_state.proofs.verdict.Verdict.line_into.Goals as goal
 
 pub returns-clause-text : goal.returns-clause-text
@@ -8,7 +8,7 @@ unfolding verdict_text
 returns-clause-text c =
     rw (
       c.push_all-11.ensures.text,
-      c.cache_word.ensures.word,
+      c.fate_word.ensures.word,
       c.push_all-10.ensures.text,
       c.push_all-9.ensures.text,
       c.word.ensures.word,
@@ -27,5 +27,5 @@ returns-clause-text c =
       c.get.ensures.value,
       c.push_all-2.ensures.text,
       c.push_all.ensures.text,
-      c.allow_word.ensures.word,
+      c.accepted_word.ensures.word,
     ) (grind (arith, common_steps))

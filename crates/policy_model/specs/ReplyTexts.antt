@@ -5,7 +5,7 @@ use Rattle.line_text.specs.WordText.{word_text}
 use Rattle.policy_model.specs.Outcomes.{Verdict}
 use Rattle.policy_model.specs.Tables.{Answer, done, repeated, key_reused, no_rule, table_full, receipts_full, disable_full}
 
--- where a verdict comes from: the rules, a kept outcome, or the want of a signature
+-- where a verdict comes from: the rules, a kept outcome, or that the code has no signature
 pub data Origin : Type 0 where
   rules : Origin
   cache : Origin
@@ -22,11 +22,27 @@ origin_text rules = codes "rules"
 origin_text cache = codes "cache"
 origin_text unsigned = codes "unsigned"
 
--- what became of the offer to keep the outcome: nothing is kept yet
-abbrev pub cache_text : Origin → List ℕ
-cache_text rules = codes "off"
-cache_text cache = codes "none"
-cache_text unsigned = codes "none"
+-- what became of the offer to keep the outcome
+pub data Fate : Type 0 where
+  -- nothing is kept yet
+  off : Fate
+  -- no rule was asked, so there was nothing to offer
+  not_offered : Fate
+
+-- the fate of an outcome of this origin, while no outcome is kept
+abbrev pub fate_by : Origin → Fate
+fate_by rules = off
+fate_by cache = not_offered
+fate_by unsigned = not_offered
+
+-- the fate of the outcome of an ask, while no outcome is kept
+abbrev pub fate_on : Option Subject → Fate
+fate_on s = fate_by (origin_on s)
+
+-- the word behind cache=
+abbrev pub fate_text : Fate → List ℕ
+fate_text off = codes "off"
+fate_text not_offered = codes "none"
 
 -- a rule's number, or none
 abbrev pub number_text : Option ℕ → List ℕ
@@ -42,11 +58,11 @@ abbrev pub override_text : Bool → List ℕ
 override_text overridden = if overridden then codes "security%20disabled" else codes "none"
 
 -- the reply to an assessment
-unfoldable pub verdict_text : Verdict → Origin → List ℕ
-verdict_text v origin =
+unfoldable pub verdict_text : Verdict → Origin → Fate → List ℕ
+verdict_text v origin fate =
     accepted_text v.allow ++ codes " at=" ++ decimal v.at ++ codes " rule=" ++ number_text v.rule ++ codes " latent=" ++ number_text v.latent
     ++ codes " label=" ++ word_text v.label ++ codes " override=" ++ override_text v.overridden
-    ++ codes " source=" ++ origin_text origin ++ codes " cache=" ++ cache_text origin
+    ++ codes " source=" ++ origin_text origin ++ codes " cache=" ++ fate_text fate
 
 -- the edit's number, and how many rules it touched
 abbrev pub numbers_text : ℕ → ℕ → List ℕ

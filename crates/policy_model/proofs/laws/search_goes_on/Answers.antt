@@ -1,0 +1,12 @@
+use Rattle.policy_model.specs.Rules.{Meets}
+use Rattle.policy_model.proofs.RuleLaws.{passes_last, fails_last, later_last}
+use Rattle.policy_model.proofs.laws.search_goes_on.Goals as goal
+
+pub returns-clause-finds : goal.returns-clause-finds
+returns-clause-finds c = λ d kind subject facts m rows r found h meets. passes_last (Meets d kind subject facts m) rows r found h meets
+
+pub returns-clause-passes : goal.returns-clause-passes
+returns-clause-passes c = λ d kind subject facts m rows r found h not'. fails_last (Meets d kind subject facts m) rows r found h not'
+
+pub returns-clause-later : goal.returns-clause-later
+returns-clause-later c = λ d kind subject facts m rows r found h not'. later_last (Meets d kind subject facts m) rows r found h not'
