@@ -1,35 +1,42 @@
-# make demo      builds the proved program and runs the first session of examples/
-# make test      the gate: proves all crates, tries the wrong bodies, runs tests and programs
-# make build     leaves the proved program in build/gatekeeper
-# make try       runs the first session in an unproved build, in under a minute
-# make install   PREFIX=/usr/local
+# make try        a first session in an unproved build: half a minute to a minute
+# make build      leaves the proved program in build/gatekeeper; where nothing is proved yet, it takes many minutes
+# make demo       the same session in the proved program
+# make test       the gate: proves all crates, tries the wrong bodies, runs tests and programs, and then 'make check'
+# make check      the repository's own checks of its program and its pages
+# make install    installs the program and its man page below PREFIX=/usr/local
+# make uninstall  removes them
+# make clean      removes build/, and leaves what was proved (crates/*/out)
 
 PREFIX ?= /usr/local
-SESSION = examples/first.session
+SESSION ?= examples/first.session
+PROOFS = crates.txt HANDLES $(shell find crates/*/src crates/*/specs crates/*/proofs 2>/dev/null)
 
-.PHONY: demo test build try install clean
+.PHONY: build demo try test check install uninstall clean
 
 build: build/gatekeeper
 
-build/gatekeeper: crates.txt HANDLES $(shell find crates -name '*.rt' -o -name '*.antt' 2>/dev/null | grep -v '/out/')
-	cd crates/gatekeeper && rt run -- --version
-	mkdir -p build
-	cp crates/gatekeeper/out/gatekeeper build/gatekeeper
+build/gatekeeper: $(PROOFS)
+	@scripts/build-program
 
 demo: build
-	@scripts/show-session build/gatekeeper $(SESSION)
+	@scripts/show-session $(SESSION) build/gatekeeper :memory: session
 
 try:
-	@echo "an unproved build:"
-	@cd crates/gatekeeper && rt try -- :memory: session < ../../$(SESSION)
+	@scripts/show-session $(SESSION) scripts/try-program :memory: session
 
 test:
 	.ci/run
+
+check:
+	@scripts/run-checks
 
 install: build
 	install -d $(DESTDIR)$(PREFIX)/bin $(DESTDIR)$(PREFIX)/share/man/man1
 	install -m 755 build/gatekeeper $(DESTDIR)$(PREFIX)/bin/gatekeeper
 	install -m 644 docs/man/gatekeeper.1 $(DESTDIR)$(PREFIX)/share/man/man1/gatekeeper.1
 
+uninstall:
+	rm -f $(DESTDIR)$(PREFIX)/bin/gatekeeper $(DESTDIR)$(PREFIX)/share/man/man1/gatekeeper.1
+
 clean:
-	rm -rf build crates/*/out
+	rm -rf build
