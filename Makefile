@@ -22,6 +22,7 @@ demo: build
 	@scripts/show-session $(SESSION) build/gatekeeper :memory: session
 
 try:
+	@echo "an unproved build of the same sources (the toolchain's words: build/try.log)"
 	@scripts/show-session $(SESSION) scripts/try-program :memory: session
 
 test:

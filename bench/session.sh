@@ -9,7 +9,7 @@ runs=${2:-5}
 work=$(mktemp -d)
 trap 'rm -rf "$work"' EXIT
 
-[ -x build/gatekeeper ] || make --no-print-directory build >/dev/null || exit 1
+make -s build || exit 1
 rustc -O -o "$work/plain" bench/plain_session.rs || exit 1
 
 awk -v lines="$lines" 'BEGIN {
