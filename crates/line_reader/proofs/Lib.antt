@@ -1,6 +1,6 @@
-pub mod HeldLemmas
-pub mod PendingLemmas
-pub mod PartLemmas
-pub mod RunLemmas
-pub mod LinesLemmas
-pub mod LimitsLemmas
+pub mod FrontsGrow
+pub mod BetweenPlaces
+pub mod LineGrows
+pub mod RunIsHandedOn
+pub mod LinesAndTheirText
+pub mod WithinAndPast

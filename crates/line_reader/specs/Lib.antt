@@ -3,3 +3,4 @@ pub mod Limits
 pub mod Held
 pub mod Reading
 pub mod Steps
+pub mod Laws

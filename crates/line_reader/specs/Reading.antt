@@ -6,6 +6,8 @@ use Rattle.line_reader.specs.Lines.{HasNoLf}
 use Rattle.line_reader.specs.declared.line_read.LineRead.{LineRead}
 use Rattle.line_reader.specs.declared.line_read.LineRead.TheVariants.{Line, Last, End, TooLong}
 use Rattle.line_reader.specs.declared.reader.LineReader.{LineReader}
+use Rattle.line_reader.specs.declared.limits.TheConstants.{SESSION_BYTES, SESSION_LINES}
+use Rattle.line_text.specs.declared.limits.TheConstants.{LINE_HELD}
 
 -- the bytes that were read and aren't handed on yet
 abbrev pub pending : LineReader → List ℕ
@@ -38,24 +40,24 @@ pub record IsPart (old new : Stream) (line : List ℕ) : Type 0 where
   pub bytes : List ℕ
   pub taken : Consumes old.unread new.unread bytes
   pub no_lf : HasNoLf bytes
-  pub front : line ≡ take 8193 bytes
+  pub front : line ≡ take LINE_HELD bytes
   pub size : new.bytes ≡ old.bytes + length bytes
   pub lines : new.lines ≡ old.lines
   -- a line was begun only where there was room for it
-  pub begun : 0 < length bytes → old.lines < 1000000
+  pub begun : 0 < length bytes → old.lines < SESSION_LINES
 
 -- a line and its LF were handed on, and the line's front is held
 pub record IsLine (old new : Stream) (line : List ℕ) : Type 0 where
   pub bytes : List ℕ
   pub taken : Consumes old.unread new.unread (bytes ++ 10 ∷ [])
   pub no_lf : HasNoLf bytes
-  pub front : line ≡ take 8193 bytes
+  pub front : line ≡ take LINE_HELD bytes
   pub size : new.bytes ≡ old.bytes + length bytes + 1
   pub lines : new.lines ≡ old.lines + 1
 
 -- as many lines, or as many bytes, as a session may have were handed on
 abbrev pub IsSpent : Stream → Type 0
-IsSpent s = (s.lines ≡ 1000000) ⊎ (s.bytes ≡ 268435456)
+IsSpent s = (s.lines ≡ SESSION_LINES) ⊎ (s.bytes ≡ SESSION_BYTES)
 
 -- how the stream went on when a line was asked for
 abbrev pub IsRead : {E : Type 0} → Stream → Stream → List ℕ → List ℕ → Result LineRead E → Type 0

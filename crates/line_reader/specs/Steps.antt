@@ -6,6 +6,7 @@ use Rattle.line_reader.specs.Reading.{pending, held}
 use Rattle.line_reader.specs.declared.line_read.LineRead.{LineRead}
 use Rattle.line_reader.specs.declared.line_read.LineRead.TheVariants.{Line, Last, End, TooLong}
 use Rattle.line_reader.specs.declared.reader.LineReader.{LineReader}
+use Rattle.line_text.specs.declared.limits.TheConstants.{LINE_HELD}
 
 -- a last line that holds a byte, or none
 abbrev pub IsLast : List ℕ → LineRead → Type 0
@@ -41,7 +42,7 @@ pub record IsRun (old new : LineReader) (ended : Bool) : Type 0 where
   pub run : List ℕ
   pub no_lf : HasNoLf run
   pub taken : pending old ≡ (run ++ lf_if ended) ++ pending new
-  pub front : held new ≡ take 8193 (held old ++ run)
+  pub front : held new ≡ take LINE_HELD (held old ++ run)
   pub lines : new.lines ≡ old.lines + length (lf_if ended)
   pub size : new.bytes ≡ old.bytes + length (run ++ lf_if ended)
   pub moved : old.bytes < new.bytes

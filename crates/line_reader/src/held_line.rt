@@ -2,16 +2,15 @@
 
 ghost use Rattle.std.specs.Prelude.{◌≡◌, ◌==◌, ◌++◌, [], length, take};
 ghost use Rattle.line_reader.specs.Held.{held_bytes};
+ghost use Rattle.line_text.specs.declared.limits.TheConstants.{LINE_HELD};
 
 use arrayvec::ArrayVec;
+use line_text::LINE_HELD;
 
-/// How many bytes of a line are held: one more than a line may have.
-const HELD: usize = 8_193;
-
-/// At most 8,193 bytes of a line, however long it is.
+/// The first `LINE_HELD` bytes of a line, however long it is.
 #[derive(Drop)]
 pub struct HeldLine {
-    bytes: ArrayVec<u8, 8_193>,
+    bytes: ArrayVec<u8, LINE_HELD>,
 }
 
 impl HeldLine {
@@ -43,9 +42,9 @@ impl HeldLine {
 
     /// Appends a run of the line's bytes, of which those past the limit are dropped.
     pub fn hold(&mut self, run: &[u8])
-        ensures { held_bytes self.new ≡ take 8193 (held_bytes self.old ++ run.now) }
+        ensures { held_bytes self.new ≡ take LINE_HELD (held_bytes self.old ++ run.now) }
     {
-        let room = HELD - self.bytes.len();
+        let room = LINE_HELD - self.bytes.len();
         let count = run.len().min(room);
         let _ = self.bytes.try_extend_from_slice(&run[..count]);
     }

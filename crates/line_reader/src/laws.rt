@@ -1,6 +1,7 @@
 //! What holds of lines and of the limits of a session, whatever the bytes are.
 
 ghost use Rattle.std.specs.Prelude.{◌≡◌, ◌⊎◌, ℕ, List, [], ◌∷◌, ◌++◌, All};
+ghost use Rattle.line_reader.specs.Laws.{LinesAddUp};
 ghost use Rattle.line_reader.specs.Limits.{IsWithin, RunsPast};
 ghost use Rattle.line_reader.specs.Lines.{HasNoLf, lines_of, text_of};
 
@@ -17,4 +18,10 @@ pub fn limits_are_passed_once()
     ensures either { (bytes : List ℕ) → IsWithin bytes ⊎ RunsPast bytes }
     ensures apart { (bytes : List ℕ) → IsWithin bytes → RunsPast bytes → ⊥ }
     ensures onward { (bytes more : List ℕ) → RunsPast bytes → RunsPast (bytes ++ more) }
+{}
+
+/// Whoever adds line to line comes to the lines of the whole, and knows by their number and their bytes how
+/// they stand to the limits of a session.
+pub fn lines_add_up()
+    ensures { LinesAddUp }
 {}

@@ -4,10 +4,12 @@
 mod find;
 mod held_line;
 pub mod laws;
+mod limits;
 mod line_read;
 mod reader;
 #[cfg(test)]
 mod tests;
 
+pub use limits::{SESSION_BYTES, SESSION_LINES};
 pub use line_read::LineRead;
 pub use reader::LineReader;

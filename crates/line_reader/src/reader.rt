@@ -1,21 +1,17 @@
 //! A source read in pieces and handed on line by line.
 
 ghost use Rattle.std.specs.Prelude.{◌≡◌, ◌≢◌, ◌+◌, ◌<◌, ◌≤◌, [], ◌∷◌, ◌++◌, Ok, IfOk, OnOk, OnErr, is_some, length};
+ghost use Rattle.line_reader.specs.declared.limits.TheConstants.{SESSION_BYTES, SESSION_LINES};
 
 use crate::find::find_lf;
 use crate::held_line::HeldLine;
+use crate::limits::{SESSION_BYTES, SESSION_LINES};
 use crate::line_read::LineRead;
 use gk_io::{Failed, Source};
 use std::alloc::{AllocError, Global};
 
 /// How many bytes are asked of the source at once: what a pipe holds.
 const PIECE: usize = 65_536;
-
-/// How many lines a session may have.
-const LINE_LIMIT: usize = 1_000_000;
-
-/// How many bytes a session may have.
-const BYTE_LIMIT: usize = 268_435_456;
 
 /// The bytes of a piece that are still to be handed on, the front of the line that is being read, and how
 /// many lines and bytes were handed on. All its memory is taken when it is made.
@@ -30,8 +26,8 @@ pub struct LineReader {
     ghost ordered: { next ≤ end },
     ghost filled: { end ≤ length piece.items },
     ghost room: { 0 < length piece.items },
-    ghost lines_within: { lines ≤ 1000000 },
-    ghost bytes_within: { bytes ≤ 268435456 },
+    ghost lines_within: { lines ≤ SESSION_LINES },
+    ghost bytes_within: { bytes ≤ SESSION_BYTES },
 }
 
 impl LineReader {
@@ -54,7 +50,7 @@ impl LineReader {
         })
     }
 
-    /// The line that was read last, or its first 8,193 bytes, without its LF.
+    /// The line that was read last, or its first `LINE_HELD` bytes, without its LF.
     pub fn line(&self) -> &[u8]
         ensures { result.now ≡ held self.now }
     {
@@ -65,8 +61,8 @@ impl LineReader {
     pub fn next_line<S: Source>(&mut self, source: &mut S) -> Result<LineRead, Failed>
         ensures read { IsRead (stream self.old (S.left source.old)) (stream self.new (S.left source.new))
             (held self.new) (pending self.new) result }
-        ensures lines { lines_handed self.new ≤ 1000000 }
-        ensures bytes { bytes_handed self.new ≤ 268435456 }
+        ensures lines { lines_handed self.new ≤ SESSION_LINES }
+        ensures bytes { bytes_handed self.new ≤ SESSION_BYTES }
         ensures telling { is_some (S.left source.new) ≡ is_some (S.left source.old) }
         ensures later { S.faults source.old ≤ S.faults source.new }
         ensures cause { OnErr result (Rose (S.faults source.old) (S.faults source.new)) }
@@ -77,7 +73,7 @@ impl LineReader {
             if !self.ready(source)? {
                 return Ok(self.last());
             }
-            if self.lines == LINE_LIMIT || self.bytes == BYTE_LIMIT {
+            if self.lines == SESSION_LINES || self.bytes == SESSION_BYTES {
                 return Ok(LineRead::TooLong);
             }
             if self.take_run() {
@@ -99,10 +95,8 @@ impl LineReader {
         if self.next < self.end {
             return Ok(true);
         }
-        match self.refill(source) {
-            Ok(()) => Ok(self.next < self.end),
-            Err(failed) => Err(failed),
-        }
+        self.refill(source)?;
+        Ok(self.next < self.end)
     }
 
     // Asks the source for a piece.
@@ -124,11 +118,11 @@ impl LineReader {
     // Hands on the pending bytes up to the first LF or the limit, and says whether they ended with LF.
     fn take_run(&mut self) -> bool
         requires some { 0 < length (pending self.old) }
-        requires lines { lines_handed self.old < 1000000 }
-        requires bytes { bytes_handed self.old < 268435456 }
+        requires lines { lines_handed self.old < SESSION_LINES }
+        requires bytes { bytes_handed self.old < SESSION_BYTES }
         ensures { IsRun self.old self.new result }
     {
-        let room = BYTE_LIMIT - self.bytes;
+        let room = SESSION_BYTES - self.bytes;
         let end = self.end.min(self.next + room);
         let window = &self.piece.as_slice()[self.next..end];
         match find_lf(window) {

@@ -1,3 +1,4 @@
-pub mod KnownLemmas
-pub mod GoingLemmas
-pub mod EndLemmas
+pub mod ToldBytes
+pub mod OneLineMore
+pub mod SessionEnds
+pub mod AfterAReply

@@ -3,6 +3,7 @@ use Rattle.std.specs.Prelude.{◌≡◌, ◌≢◌, ℕ, ◌-◌, ◌⊎◌, Lis
 use Rattle.std.specs.Io.KnownBytes.{Appends, Consumes, IsAtEnd}
 use Rattle.line_reader.specs.Lines.{lines_of, text_of, with_lf, HasNoLf}
 use Rattle.line_reader.specs.Limits.{IsWithin, RunsPast}
+use Rattle.line_reader.specs.declared.limits.TheConstants.{SESSION_BYTES, SESSION_LINES}
 
 -- the whole input was read, and the replies to its lines were written, each with its LF
 pub record EndsFine (Answered : List (List ℕ) → List (List ℕ) → Type 0) (left now written sent : Option (List ℕ)) : Type 0 where
@@ -32,9 +33,9 @@ AtReadFault lines rest = HasNoLf rest × IsWithin (text_of lines ++ rest)
 
 -- where the limits were passed every whole line within them was answered
 abbrev pub AtLimit : List (List ℕ) → List ℕ → Type 0
-AtLimit lines rest = RunsPast (text_of lines ++ rest) × ((length lines ≡ 1000000) ⊎ HasNoLf (take (268435456 - length (text_of lines)) rest))
+AtLimit lines rest = RunsPast (text_of lines ++ rest) × ((length lines ≡ SESSION_LINES) ⊎ HasNoLf (take (SESSION_BYTES - length (text_of lines)) rest))
 
--- want of memory comes anywhere
+-- memory may run out anywhere
 abbrev pub AtWant : List (List ℕ) → List ℕ → Type 0
 AtWant lines rest = ⊤
 

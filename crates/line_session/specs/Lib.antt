@@ -1,3 +1,3 @@
 pub mod Ends
 pub mod Replies
-pub mod Turns
+pub mod Going

@@ -11,6 +11,6 @@ pub enum Ended {
     WriteFault,
     /// The source gave a byte past the limits of a session.
     TooLong,
-    /// Memory was wanting, at the start or for the next line.
+    /// Out of memory, at the start or for the next line.
     OutOfMemory,
 }

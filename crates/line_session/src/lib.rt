@@ -2,6 +2,7 @@
 #![tactic(auto)]
 
 mod ended;
+mod limits;
 mod line;
 mod reply;
 mod responder;
@@ -10,6 +11,7 @@ mod session;
 mod tests;
 
 pub use ended::Ended;
+pub use limits::REPLY_LIMIT;
 pub use line::write_line;
 pub use responder::Responder;
 pub use session::run_session;

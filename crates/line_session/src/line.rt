@@ -5,13 +5,14 @@ ghost use Rattle.line_text.specs.LineText.{line_bytes};
 ghost use Rattle.gk_io.specs.Faults.{Rose};
 ghost use Rattle.gk_io.specs.Told.{IsFlushed, PutAppends};
 ghost use Rattle.line_reader.specs.Lines.{with_lf};
+ghost use Rattle.line_session.specs.declared.limits.TheConstants.{REPLY_LIMIT};
 
 use gk_io::{Failed, Sink};
 use line_text::LineText;
 
 /// Writes the text with an LF in one call, and flushes it. The LF stays at the end of the text.
 pub fn write_line<W: Sink>(output: &mut W, text: &mut LineText) -> Result<(), Failed>
-    requires { length (line_bytes text.old) ≤ 1000 }
+    requires { length (line_bytes text.old) ≤ REPLY_LIMIT }
     ensures bytes { PutAppends (W.written output.old) (W.written output.new) result
         (with_lf (line_bytes text.old)) }
     ensures flushed { OnOk result (IsFlushed (W.flushed output.new) (W.written output.new)) }
@@ -22,12 +23,6 @@ pub fn write_line<W: Sink>(output: &mut W, text: &mut LineText) -> Result<(), Fa
     ensures steady { OnOk result (W.faults output.new ≡ W.faults output.old) }
 {
     text.push(b'\n');
-    match output.put(text.as_slice()) {
-        Ok(()) => {}
-        Err(failed) => return Err(failed),
-    }
-    match output.flush() {
-        Ok(()) => Ok(()),
-        Err(failed) => Err(failed),
-    }
+    output.put(text.as_slice())?;
+    output.flush()
 }

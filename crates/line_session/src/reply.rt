@@ -1,11 +1,13 @@
 //! One line's reply.
 
-ghost use Rattle.std.specs.Prelude.{◌≡◌, ◌≢◌, ◌≤◌, ℕ, List, [], ◌∷◌, ◌++◌, is_some, length, take};
+ghost use Rattle.std.specs.Prelude.{◌≡◌, ◌≢◌, ℕ, List, [], ◌∷◌, ◌++◌, is_some, length, take};
 ghost use Rattle.line_text.specs.LineText.{line_bytes};
-ghost use Rattle.gk_io.specs.Faults.{Rose};
+ghost use Rattle.line_text.specs.declared.limits.TheConstants.{LINE_HELD};
 ghost use Rattle.gk_io.specs.Told.{IsFlushed};
+ghost use Rattle.line_session.specs.Going.{BlamesSink, StaysTold, end_after};
 ghost use Rattle.line_session.specs.Replies.{IsReplied};
 
+use crate::ended::Ended;
 use crate::line::write_line;
 use crate::responder::Responder;
 use gk_io::{Failed, Sink};
@@ -19,8 +21,21 @@ pub enum Reply {
     Whole,
     /// The line was answered, and the sink failed.
     Broken,
-    /// Memory was wanting, and the line wasn't answered.
+    /// Out of memory, and the line wasn't answered.
     Unanswered,
+}
+
+impl Reply {
+    // How the session ends, where after a whole reply it would end so or go on.
+    pub fn end_after(self, whole: Option<Ended>) -> Option<Ended>
+        ensures { result ≡ end_after self whole }
+    {
+        match self {
+            Reply::Whole => whole,
+            Reply::Broken => Some(Ended::WriteFault),
+            Reply::Unanswered => Some(Ended::OutOfMemory),
+        }
+    }
 }
 
 /// Answers a line, and writes the reply with its LF at once.
@@ -32,16 +47,14 @@ pub fn reply_to<R: Responder, W: Sink>(
     output: &mut W,
 ) -> Reply
     ensures replied { (begin : R) (whole : List ℕ) (lines replies : List (List ℕ))
-        → line.now ≡ take 8193 whole → R.answered begin responder.old lines replies
+        → line.now ≡ take LINE_HELD whole → R.answered begin responder.old lines replies
         → IsReplied (R.answered begin responder.new) (W.written output.old) (W.written output.new)
         whole lines replies result }
     ensures flushed { result ≢ Reply.Broken → IsFlushed (W.flushed output.old) (W.written output.old)
         → IsFlushed (W.flushed output.new) (W.written output.new) }
-    ensures telling { is_some (W.written output.new) ≡ is_some (W.written output.old) }
-    ensures flushed_telling { is_some (W.flushed output.new) ≡ is_some (W.flushed output.old) }
-    ensures later { W.faults output.old ≤ W.faults output.new }
-    ensures cause { result ≡ Reply.Broken → Rose (W.faults output.old) (W.faults output.new) }
-    ensures steady { result ≢ Reply.Broken → W.faults output.new ≡ W.faults output.old }
+    ensures telling { StaysTold (W.written output.old) (W.written output.new) }
+    ensures flushed_telling { StaysTold (W.flushed output.old) (W.flushed output.new) }
+    ensures cause { BlamesSink result (W.faults output.old) (W.faults output.new) }
 {
     text.clear();
     match responder.answer(alloc, line, text) {

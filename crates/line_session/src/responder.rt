@@ -2,6 +2,8 @@
 
 ghost use Rattle.std.specs.Prelude.{◌≡◌, ◌≤◌, ℕ, List, [], ◌∷◌, ◌++◌, OnOk, OnErr, length, take};
 ghost use Rattle.line_text.specs.LineText.{line_bytes};
+ghost use Rattle.line_text.specs.declared.limits.TheConstants.{LINE_HELD};
+ghost use Rattle.line_session.specs.declared.limits.TheConstants.{REPLY_LIMIT};
 
 use line_text::LineText;
 use std::alloc::{AllocError, Global};
@@ -11,13 +13,13 @@ pub trait Responder {
     // These lines were answered by these replies, in order, since the responder was made.
     ghost answered: { Self → Self → List (List ℕ) → List (List ℕ) → Type 0 };
 
-    /// Answers a line, of which at most the first 8,193 bytes are handed in, by a reply without LF. Where
-    /// memory is wanting the line isn't answered and changed nothing.
+    /// Answers a line, of which at most the first `LINE_HELD` bytes are handed in, by a reply without LF. Out of
+    /// memory, the line isn't answered and changed nothing.
     fn answer(&mut self, alloc: Global, line: &[u8], out: &mut LineText) -> Result<(), AllocError>
         requires { line_bytes out.old ≡ [] }
-        ensures room { length (line_bytes out.new) ≤ 1000 }
+        ensures room { length (line_bytes out.new) ≤ REPLY_LIMIT }
         ensures answers { OnOk result ((begin : Self) (whole : List ℕ) (lines replies : List (List ℕ))
-            → line.now ≡ take 8193 whole → answered begin self.old lines replies
+            → line.now ≡ take LINE_HELD whole → answered begin self.old lines replies
             → answered begin self.new (lines ++ whole ∷ []) (replies ++ line_bytes out.new ∷ [])) }
         ensures refuses { OnErr result ((begin : Self) (lines replies : List (List ℕ))
             → answered begin self.old lines replies → answered begin self.new lines replies) };

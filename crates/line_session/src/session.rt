@@ -5,19 +5,21 @@ ghost use Rattle.gk_io.specs.Faults.{Rose};
 ghost use Rattle.gk_io.specs.Told.{IsFlushed};
 ghost use Rattle.line_reader.specs.Limits.{IsWithin, RunsPast};
 ghost use Rattle.line_reader.specs.Reading.{pending, stream, lines_handed, bytes_handed};
+ghost use Rattle.line_reader.specs.declared.limits.TheConstants.{SESSION_LINES};
 ghost use Rattle.line_session.specs.Ends.{EndsFine, StopsBefore, BreaksOff, AtReadFault, AtLimit, AtWant};
-ghost use Rattle.line_session.specs.Turns.{IsGoing, IsEnd, IsTurn};
+ghost use Rattle.line_session.specs.Going.{IsGoing, IsEnd, IsTurn, Blames, StaysFlushed, StaysTold};
 
 use crate::ended::Ended;
-use crate::reply::{Reply, reply_to};
+use crate::reply::reply_to;
 use crate::responder::Responder;
 use gk_io::{Failed, Sink, Source};
+use line_reader::laws::{limits_are_passed_once, lines_add_up};
 use line_reader::{LineRead, LineReader};
 use line_text::LineText;
 use std::alloc::Global;
 
 /// Answers the source's lines in order, each by one line into the sink, until the source's end, a fault, the
-/// limits of a session or want of memory.
+/// limits of a session or the end of memory.
 pub fn run_session<R: Responder, S: Source, W: Sink>(
     alloc: Global,
     responder: &mut R,
@@ -56,6 +58,7 @@ pub fn run_session<R: Responder, S: Source, W: Sink>(
     ensures input_later { S.faults input.old ≤ S.faults input.new }
     ensures output_later { W.faults output.old ≤ W.faults output.new }
 {
+    limits_are_passed_once();
     match LineReader::new(alloc) {
         Ok(mut reader) => all_lines(alloc, &mut reader, responder, input, output),
         Err(_) => Ended::OutOfMemory,
@@ -76,28 +79,24 @@ fn all_lines<R: Responder, S: Source, W: Sink>(
     requires answered { R.answered responder.old responder.old [] [] }
     ensures ends { IsEnd (R.answered responder.old responder.new)
         (S.left input.old) (S.left input.new) (W.written output.old) (W.written output.new) result }
-    ensures flushed { result ≢ Ended.WriteFault → IsFlushed (W.flushed output.old) (W.written output.old)
-        → IsFlushed (W.flushed output.new) (W.written output.new) }
-    ensures read_cause { result ≡ Ended.ReadFault → Rose (S.faults input.old) (S.faults input.new) }
-    ensures write_cause { result ≡ Ended.WriteFault → Rose (W.faults output.old) (W.faults output.new) }
-    ensures read_steady { result ≢ Ended.ReadFault → S.faults input.new ≡ S.faults input.old }
-    ensures write_steady { result ≢ Ended.WriteFault → W.faults output.new ≡ W.faults output.old }
-    ensures input_telling { is_some (S.left input.new) ≡ is_some (S.left input.old) }
-    ensures output_telling { is_some (W.written output.new) ≡ is_some (W.written output.old) }
-    ensures flushed_telling { is_some (W.flushed output.new) ≡ is_some (W.flushed output.old) }
-    ensures input_later { S.faults input.old ≤ S.faults input.new }
-    ensures output_later { W.faults output.old ≤ W.faults output.new }
+    ensures flushed { StaysFlushed (Some result) (W.flushed output.old) (W.flushed output.new)
+        (W.written output.old) (W.written output.new) }
+    ensures cause { Blames (Some result) (S.faults input.old) (S.faults input.new)
+        (W.faults output.old) (W.faults output.new) }
+    ensures input_telling { StaysTold (S.left input.old) (S.left input.new) }
+    ensures output_telling { StaysTold (W.written output.old) (W.written output.new) }
+    ensures flushed_telling { StaysTold (W.flushed output.old) (W.flushed output.new) }
 {
     let mut text = LineText::new();
     loop {
-        if let Some(ended) = turn(alloc, reader, &mut text, responder, input, output) {
+        if let Some(ended) = one_line(alloc, reader, &mut text, responder, input, output) {
             return ended;
         }
     }
 }
 
 // One line: none where the session goes on.
-fn turn<R: Responder, S: Source, W: Sink>(
+fn one_line<R: Responder, S: Source, W: Sink>(
     alloc: Global,
     reader: &mut LineReader,
     text: &mut LineText,
@@ -110,30 +109,23 @@ fn turn<R: Responder, S: Source, W: Sink>(
         → IsTurn (R.answered begin responder.new) start (S.left input.new) (stream reader.new (S.left input.new))
         first (W.written output.new) result }
     ensures counted { IfNone result (lines_handed reader.old < lines_handed reader.new) }
-    ensures lines { lines_handed reader.new ≤ 1000000 }
-    ensures flushed { result ≢ Some Ended.WriteFault → IsFlushed (W.flushed output.old) (W.written output.old)
-        → IsFlushed (W.flushed output.new) (W.written output.new) }
-    ensures read_cause { result ≡ Some Ended.ReadFault → Rose (S.faults input.old) (S.faults input.new) }
-    ensures write_cause { result ≡ Some Ended.WriteFault → Rose (W.faults output.old) (W.faults output.new) }
-    ensures read_steady { result ≢ Some Ended.ReadFault → S.faults input.new ≡ S.faults input.old }
-    ensures write_steady { result ≢ Some Ended.WriteFault → W.faults output.new ≡ W.faults output.old }
-    ensures input_telling { is_some (S.left input.new) ≡ is_some (S.left input.old) }
-    ensures output_telling { is_some (W.written output.new) ≡ is_some (W.written output.old) }
-    ensures flushed_telling { is_some (W.flushed output.new) ≡ is_some (W.flushed output.old) }
-    ensures input_later { S.faults input.old ≤ S.faults input.new }
-    ensures output_later { W.faults output.old ≤ W.faults output.new }
+    ensures lines { lines_handed reader.new ≤ SESSION_LINES }
+    ensures flushed { StaysFlushed result (W.flushed output.old) (W.flushed output.new)
+        (W.written output.old) (W.written output.new) }
+    ensures cause { Blames result (S.faults input.old) (S.faults input.new)
+        (W.faults output.old) (W.faults output.new) }
+    ensures input_telling { StaysTold (S.left input.old) (S.left input.new) }
+    ensures output_telling { StaysTold (W.written output.old) (W.written output.new) }
+    ensures flushed_telling { StaysTold (W.flushed output.old) (W.flushed output.new) }
 {
+    lines_add_up();
     match reader.next_line(input) {
-        Ok(LineRead::Line) => match reply_to(alloc, responder, reader.line(), text, output) {
-            Reply::Whole => None,
-            Reply::Broken => Some(Ended::WriteFault),
-            Reply::Unanswered => Some(Ended::OutOfMemory),
-        },
-        Ok(LineRead::Last) => match reply_to(alloc, responder, reader.line(), text, output) {
-            Reply::Whole => Some(Ended::Fine),
-            Reply::Broken => Some(Ended::WriteFault),
-            Reply::Unanswered => Some(Ended::OutOfMemory),
-        },
+        Ok(LineRead::Line) => {
+            reply_to(alloc, responder, reader.line(), text, output).end_after(None)
+        }
+        Ok(LineRead::Last) => {
+            reply_to(alloc, responder, reader.line(), text, output).end_after(Some(Ended::Fine))
+        }
         Ok(LineRead::End) => Some(Ended::Fine),
         Ok(LineRead::TooLong) => Some(Ended::TooLong),
         Err(Failed) => Some(Ended::ReadFault),

@@ -1,4 +1,4 @@
-use Rattle.line_reader.proofs.LimitsLemmas.{not_both, within_or_past, RunsPast-append}
+use Rattle.line_reader.proofs.WithinAndPast.{not_both, within_or_past, RunsPast-append}
 use Rattle.line_reader.proofs.laws.limits_are_passed_once.Goals as goal
 
 pub returns-clause-either : goal.returns-clause-either

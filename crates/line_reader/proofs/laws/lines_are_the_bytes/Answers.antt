@@ -1,4 +1,4 @@
-use Rattle.line_reader.proofs.LinesLemmas.{lines_of-whole, text_of-lines_of, lines_of-text_of}
+use Rattle.line_reader.proofs.LinesAndTheirText.{lines_of-whole, text_of-lines_of, lines_of-text_of}
 use Rattle.line_reader.proofs.laws.lines_are_the_bytes.Goals as goal
 
 pub returns-clause-whole : goal.returns-clause-whole

@@ -1,19 +1,20 @@
-use Rattle.std.proofs.Common.{◌≡◌, is_some, ◌-◌}
+use Rattle.std.proofs.Common.{◌≡◌, ◌-◌}
 use Rattle.gk_io.specs.Told.{IsFlushed}
 use Rattle.line_reader.specs.Reading.{stream}
-use Rattle.line_session.specs.Turns.{IsGoing}
+use Rattle.line_reader.specs.declared.limits.TheConstants.{SESSION_LINES}
+use Rattle.line_session.specs.Going.{IsGoing, StaysTold}
 use Rattle.line_session.proofs.session.all_lines.Given as goal
 
 abbrev pub invariant-loop-ended : goal.invariant-loop-ended
 invariant-loop-ended g l = record {
   going : IsGoing (g.R.Responder.answered l.fn.responder l.responder) (g.S.Source.left l.fn.input) (stream l.reader (g.S.Source.left l.input)) (g.W.Sink.written l.fn.output) (g.W.Sink.written l.output);
   flushed : IsFlushed (g.W.Sink.flushed l.fn.output) (g.W.Sink.written l.fn.output) → IsFlushed (g.W.Sink.flushed l.output) (g.W.Sink.written l.output);
-  input_telling : is_some (g.S.Source.left l.input) ≡ is_some (g.S.Source.left l.fn.input);
-  output_telling : is_some (g.W.Sink.written l.output) ≡ is_some (g.W.Sink.written l.fn.output);
-  flushed_telling : is_some (g.W.Sink.flushed l.output) ≡ is_some (g.W.Sink.flushed l.fn.output);
+  input_telling : StaysTold (g.S.Source.left l.fn.input) (g.S.Source.left l.input);
+  output_telling : StaysTold (g.W.Sink.written l.fn.output) (g.W.Sink.written l.output);
+  flushed_telling : StaysTold (g.W.Sink.flushed l.fn.output) (g.W.Sink.flushed l.output);
   input_steady : g.S.Source.faults l.input ≡ g.S.Source.faults l.fn.input;
   output_steady : g.W.Sink.faults l.output ≡ g.W.Sink.faults l.fn.output;
 }
 
 abbrev pub decreases-loop-ended : goal.decreases-loop-ended
-decreases-loop-ended g l = 1000000 - l.reader.lines
+decreases-loop-ended g l = SESSION_LINES - l.reader.lines

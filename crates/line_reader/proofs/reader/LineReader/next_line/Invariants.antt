@@ -1,6 +1,7 @@
 use Rattle.std.proofs.Common.{◌≡◌, is_some, ◌-◌}
 use Rattle.line_reader.specs.Reading.{held, stream, IsPart}
 use Rattle.line_reader.proofs.reader.LineReader.next_line.Given as goal
+use Rattle.line_reader.specs.declared.limits.TheConstants.{SESSION_BYTES}
 
 abbrev pub invariant-loop-self : goal.invariant-loop-self
 invariant-loop-self g l = record {
@@ -10,4 +11,4 @@ invariant-loop-self g l = record {
 }
 
 abbrev pub decreases-loop-self : goal.decreases-loop-self
-decreases-loop-self g l = 268435456 - l.self.bytes
+decreases-loop-self g l = SESSION_BYTES - l.self.bytes

@@ -2,12 +2,12 @@ use Rattle.std.proofs.Common.{◌≡◌, [], arith}
 use Rattle.std.proofs.lemmas.List.{nil_from_length}
 use Rattle.line_reader.specs.Reading.{pending}
 use Rattle.gk_io.specs.declared.fault.Failed.{Failed}
-use Rattle.line_reader.proofs.PendingLemmas.{ready_after, length_pending}
+use Rattle.line_reader.proofs.BetweenPlaces.{ready_after, length_pending}
 use Rattle.line_reader.proofs.reader.LineReader.ready.Goals as goal
 
-pub returns-in-Ok-clause-bytes : goal.returns-in-Ok-clause-bytes
-returns-in-Ok-clause-bytes g c =
-    let filled = c.in-Ok.ensures.bytes in
+pub returns-clause-bytes : goal.returns-clause-bytes
+returns-clause-bytes g c =
+    let filled = c.in_ok-refill.ensures.bytes in
     let test = c.if-self.false in
     let old = c.args.self.now in
     let new = c.refill.new.self in

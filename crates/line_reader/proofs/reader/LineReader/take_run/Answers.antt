@@ -1,5 +1,5 @@
 use Rattle.std.proofs.Common.{◌-◌, take, drop, refl, ap}
-use Rattle.line_reader.proofs.RunLemmas.{run_with_lf, run_without_lf}
+use Rattle.line_reader.proofs.RunIsHandedOn.{run_with_lf, run_without_lf}
 use Rattle.line_reader.proofs.reader.LineReader.take_run.Goals as goal
 
 pub returns-in-Some : goal.returns-in-Some

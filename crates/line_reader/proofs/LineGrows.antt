@@ -7,7 +7,9 @@ use Rattle.line_reader.specs.Lines.{HasNoLf}
 use Rattle.line_reader.specs.Reading.{pending, held, Stream, stream, IsPart, IsLine}
 use Rattle.line_reader.specs.Steps.{IsReady, HandsOnNothing, IsRun}
 use Rattle.line_reader.specs.declared.reader.LineReader.{LineReader}
-use Rattle.line_reader.proofs.HeldLemmas.{front_grows}
+use Rattle.line_reader.proofs.FrontsGrow.{front_grows}
+use Rattle.line_reader.specs.declared.limits.TheConstants.{SESSION_LINES}
+use Rattle.line_text.specs.declared.limits.TheConstants.{LINE_HELD}
 
 -- nothing yet
 pub part_start : (a : Stream) (line : List ℕ) → line ≡ [] → IsPart a a line
@@ -44,12 +46,12 @@ no_lf_more : (xs ys : List ℕ) → HasNoLf xs → HasNoLf ys → HasNoLf (xs ++
 no_lf_more xs ys h k = All-append (λ (byte : ℕ). byte ≢ 10) xs ys h k
 
 -- a run without LF
-pub part_grows : (a : Stream) (q r : LineReader) (m : Option (List ℕ)) → IsPart a (stream q m) (held q) → q.lines < 1000000 → IsRun q r false → IsPart a (stream r m) (held r)
+pub part_grows : (a : Stream) (q r : LineReader) (m : Option (List ℕ)) → IsPart a (stream q m) (held q) → q.lines < SESSION_LINES → IsRun q r false → IsPart a (stream r m) (held r)
 part_grows a q r m part room run = record {
   bytes = part.bytes ++ run.run;
   taken = run_taken a.unread m part.bytes (pending q) run.run (pending r) (run.taken ∙ ap (λ l. l ++ pending r) (append-nil run.run)) part.taken;
   no_lf = no_lf_more part.bytes run.run part.no_lf run.no_lf;
-  front = front_grows 8193 (held q) (held r) part.bytes run.run part.front run.front;
+  front = front_grows LINE_HELD (held q) (held r) part.bytes run.run part.front run.front;
   size = grind (arith, part.size, run.size, length-append part.bytes run.run, length-append run.run []);
   lines = grind (arith, part.lines, run.lines);
   begun = λ h. grind (arith, room, part.lines);
@@ -62,7 +64,7 @@ line_ends a q r m part run = record {
   taken = subst (Consumes a.unread (prepend_known (pending r) m)) (sym (append_assoc part.bytes run.run (10 ∷ [])))
       (run_taken a.unread m part.bytes (pending q) (run.run ++ 10 ∷ []) (pending r) run.taken part.taken);
   no_lf = no_lf_more part.bytes run.run part.no_lf run.no_lf;
-  front = front_grows 8193 (held q) (held r) part.bytes run.run part.front run.front;
+  front = front_grows LINE_HELD (held q) (held r) part.bytes run.run part.front run.front;
   size = grind (arith, part.size, run.size, length-append part.bytes run.run, length-append run.run (10 ∷ []));
   lines = grind (arith, part.lines, run.lines);
 }

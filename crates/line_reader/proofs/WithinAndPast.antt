@@ -4,7 +4,8 @@ use Rattle.std.proofs.lemmas.Bool.{cases_lt}
 use Rattle.std.proofs.lemmas.List.{take_at}
 use Rattle.line_reader.specs.Lines.{lines_of, text_of, HasNoLf}
 use Rattle.line_reader.specs.Limits.{IsWithin, RunsPast}
-use Rattle.line_reader.proofs.LinesLemmas.{lines_of-text, lines_of-last, lines_of-some, lines_of-front}
+use Rattle.line_reader.proofs.LinesAndTheirText.{lines_of-text, lines_of-last, lines_of-some, lines_of-front}
+use Rattle.line_reader.specs.declared.limits.TheConstants.{SESSION_BYTES, SESSION_LINES}
 
 -- no session is both
 pub not_both : (bytes : List ℕ) → IsWithin bytes → RunsPast bytes → ⊥
@@ -19,8 +20,8 @@ count_lines : (lines : List (List ℕ)) (rest : List ℕ) → All HasNoLf lines 
 count_lines lines rest whole = ap length (lines_of-text lines rest whole) ∙ length-append lines (lines_of rest)
 
 -- whole lines and a part of one for which there was room
-pub within_part : (lines : List (List ℕ)) (rest : List ℕ) → All HasNoLf lines → HasNoLf rest → length lines ≤ 1000000 → (0 < length rest → length lines < 1000000)
-    → length (text_of lines) + length rest ≤ 268435456 → IsWithin (text_of lines ++ rest)
+pub within_part : (lines : List (List ℕ)) (rest : List ℕ) → All HasNoLf lines → HasNoLf rest → length lines ≤ SESSION_LINES → (0 < length rest → length lines < SESSION_LINES)
+    → length (text_of lines) + length rest ≤ SESSION_BYTES → IsWithin (text_of lines ++ rest)
 within_part lines [] whole no_lf most begun size = record {
   lines = grind (arith, most, count_lines lines [] whole);
   size = grind (arith, size, length-append (text_of lines) []);
@@ -34,7 +35,7 @@ within_part lines (byte ∷ rest) whole no_lf most begun size =
 
 -- a byte behind as many lines, or as many bytes, as a session may have
 pub past_limit : (lines : List (List ℕ)) (part behind : List ℕ) → All HasNoLf lines → 0 < length behind
-    → (length lines ≡ 1000000) ⊎ (length (text_of lines) + length part ≡ 268435456) → RunsPast (text_of lines ++ (part ++ behind))
+    → (length lines ≡ SESSION_LINES) ⊎ (length (text_of lines) + length part ≡ SESSION_BYTES) → RunsPast (text_of lines ++ (part ++ behind))
 past_limit lines part behind whole some full =
     let more : 0 < length (part ++ behind) = grind (arith, some, length-append part behind) in
     elim full [
@@ -46,15 +47,15 @@ past_limit lines part behind whole some full =
 no_lf_within : (n : ℕ) (text part behind : List ℕ) → length text + length part ≡ n → HasNoLf part → HasNoLf (take (n - length text) (part ++ behind))
 no_lf_within n text part behind full no_lf = subst HasNoLf (sym (take_at part behind (n - length text) (grind (arith, full)))) no_lf
 
-pub all_within : (lines : List (List ℕ)) (part behind : List ℕ) → HasNoLf part → (length lines ≡ 1000000) ⊎ (length (text_of lines) + length part ≡ 268435456)
-    → (length lines ≡ 1000000) ⊎ HasNoLf (take (268435456 - length (text_of lines)) (part ++ behind))
+pub all_within : (lines : List (List ℕ)) (part behind : List ℕ) → HasNoLf part → (length lines ≡ SESSION_LINES) ⊎ (length (text_of lines) + length part ≡ SESSION_BYTES)
+    → (length lines ≡ SESSION_LINES) ⊎ HasNoLf (take (SESSION_BYTES - length (text_of lines)) (part ++ behind))
 all_within lines part behind no_lf full =
-    elim full [ inl number ↦ inl number | inr size ↦ inr (no_lf_within 268435456 (text_of lines) part behind size no_lf) ]
+    elim full [ inl number ↦ inl number | inr size ↦ inr (no_lf_within SESSION_BYTES (text_of lines) part behind size no_lf) ]
 
 -- each is one
 pub within_or_past : (bytes : List ℕ) → IsWithin bytes ⊎ RunsPast bytes
 within_or_past bytes =
-    elim (cases_lt 1000000 (length (lines_of bytes))) [
+    elim (cases_lt SESSION_LINES (length (lines_of bytes))) [
       | inl lines ↦ inr (inl lines)
-      | inr lines ↦ elim (cases_lt 268435456 (length bytes)) [ inl size ↦ inr (inr size) | inr size ↦ inl (record { lines = lines; size = size }) ]
+      | inr lines ↦ elim (cases_lt SESSION_BYTES (length bytes)) [ inl size ↦ inr (inr size) | inr size ↦ inl (record { lines = lines; size = size }) ]
     ]

@@ -1,4 +1,4 @@
--- How a session ends.
+-- How a session ends, and what was read, answered and written by then.
 use Rattle.std.proofs.Common.{◌≡◌, ◌≢◌, ℕ, All, length-append, zero, suc, ◌+◌, ◌<◌, ◌≤◌, ◌⊎◌, inl, inr, List, [], ◌∷◌, ◌++◌, Option, None, Some, length, take, refl, sym, ap, ◌∙◌, subst, append_assoc, append-nil, lit<, arith}
 use Rattle.std.proofs.KnownBytes.{Appends-nil, Appends-trans, Consumes-nil, Consumes-trans}
 use Rattle.std.specs.Io.KnownBytes.{Appends, Consumes, IsAtEnd, prepend_known}
@@ -6,15 +6,18 @@ use Rattle.line_reader.specs.Lines.{lines_of, text_of, with_lf, HasNoLf}
 use Rattle.line_reader.specs.Limits.{IsWithin, RunsPast}
 use Rattle.line_reader.specs.Reading.{Stream, IsLine, IsPart, IsSpent, pending, stream}
 use Rattle.line_reader.specs.declared.reader.LineReader.{LineReader}
-use Rattle.line_reader.proofs.LinesLemmas.{lines_of-text, lines_of-last, whole_more, text_of-more}
-use Rattle.line_reader.proofs.LimitsLemmas.{not_both, RunsPast-append, within_part, past_limit, all_within}
+use Rattle.line_reader.specs.Laws.{LinesAddUp}
+use Rattle.line_reader.specs.declared.limits.TheConstants.{SESSION_BYTES, SESSION_LINES}
+use Rattle.line_text.specs.declared.limits.TheConstants.{LINE_HELD}
 use Rattle.line_session.specs.Ends.{EndsFine, StopsBefore, BreaksOff, AtReadFault, AtLimit, AtWant}
 use Rattle.line_session.specs.Replies.{IsReplied}
+use Rattle.line_session.specs.declared.reply.Reply.{Reply}
 use Rattle.line_session.specs.declared.reply.Reply.TheVariants.{Whole, Broken, Unanswered}
-use Rattle.line_session.specs.Turns.{IsGoing, IsEnd}
+use Rattle.line_session.specs.Going.{IsGoing, IsEnd, IsTurn, end_after}
 use Rattle.line_session.specs.declared.ended.Ended.{Ended}
 use Rattle.line_session.specs.declared.ended.Ended.TheVariants.{Fine, ReadFault, WriteFault, TooLong, OutOfMemory}
-use Rattle.line_session.proofs.KnownLemmas.{lost_behind, end_left, lost_at_end, put_kept}
+use Rattle.line_session.proofs.OneLineMore.{one_more, text_of-more, whole_more}
+use Rattle.line_session.proofs.ToldBytes.{lost_behind, end_left, lost_at_end, put_kept}
 
 -- the replies and a front of one more
 broken_put : (first old new : Option (List ℕ)) (replies : List (List ℕ)) (reply : List ℕ) (count : ℕ) → Appends first old (text_of replies) → Appends old new (take count (with_lf reply))
@@ -34,9 +37,9 @@ none_held zero held (byte ∷ bytes) lt h none = absurd (omega arith)
 none_held (suc n) held (byte ∷ bytes) lt h none = cc
 
 -- so many whole lines are within the limits
-whole_within : (lines : List (List ℕ)) → All HasNoLf lines → length lines ≤ 1000000 → length (text_of lines) ≤ 268435456 → IsWithin (text_of lines)
-whole_within lines whole most size =
-    subst IsWithin (append-nil (text_of lines)) (within_part lines [] whole (λ k d h. absurd (omega arith)) most (λ some. absurd (omega (arith, some))) (grind (arith, size)))
+whole_within : (laws : LinesAddUp) (lines : List (List ℕ)) → All HasNoLf lines → length lines ≤ SESSION_LINES → length (text_of lines) ≤ SESSION_BYTES → IsWithin (text_of lines)
+whole_within laws lines whole most size =
+    subst IsWithin (append-nil (text_of lines)) (laws.within lines [] whole (λ k d h. absurd (omega arith)) most (λ some. absurd (omega (arith, some))) (grind (arith, size)))
 
 -- a session that couldn't begin
 pub stops_at_once : (A : List (List ℕ) → List (List ℕ) → Type 0) (left first : Option (List ℕ)) → A [] [] → StopsBefore AtWant A left left first first
@@ -62,23 +65,23 @@ is_answered A start left first sent TooLong e = (e.lines, e.replies, e.answered)
 is_answered A start left first sent OutOfMemory e = (e.lines, e.replies, e.answered)
 
 -- bytes that run past the limits are no told session within them
-pub too_long : (A : List (List ℕ) → List (List ℕ) → Type 0) (left now written sent : Option (List ℕ)) (bytes : List ℕ) → left ≡ Some bytes → StopsBefore AtLimit A left now written sent → IsWithin bytes → ⊥
-too_long A None now written sent bytes told stops within = cc
-too_long A (Some us) None written sent bytes told stops within = absurd stops.taken
-too_long A (Some us) (Some vs) written sent bytes told stops within =
+pub too_long : (apart : (bytes : List ℕ) → IsWithin bytes → RunsPast bytes → ⊥) (onward : (bytes more : List ℕ) → RunsPast bytes → RunsPast (bytes ++ more)) (A : List (List ℕ) → List (List ℕ) → Type 0) (left now written sent : Option (List ℕ)) (bytes : List ℕ) → left ≡ Some bytes → StopsBefore AtLimit A left now written sent → IsWithin bytes → ⊥
+too_long apart onward A None now written sent bytes told stops within = cc
+too_long apart onward A (Some us) None written sent bytes told stops within = absurd stops.taken
+too_long apart onward A (Some us) (Some vs) written sent bytes told stops within =
     let same : us ≡ bytes = cc in
-    not_both bytes within (subst RunsPast (sym stops.taken ∙ same) (RunsPast-append (text_of stops.lines ++ stops.rest) vs stops.why.0))
+    apart bytes within (subst RunsPast (sym stops.taken ∙ same) (onward (text_of stops.lines ++ stops.rest) vs stops.why.0))
 
 -- a told session that was read to its end is within them
-pub read_within : (A : List (List ℕ) → List (List ℕ) → Type 0) (left now written sent : Option (List ℕ)) (bytes : List ℕ) → left ≡ Some bytes → EndsFine A left now written sent → RunsPast bytes → ⊥
-read_within A None now written sent bytes told ends past = cc
-read_within A (Some us) None written sent bytes told ends past = absurd ends.taken
-read_within A (Some us) (Some vs) written sent bytes told ends past =
+pub read_within : (apart : (bytes : List ℕ) → IsWithin bytes → RunsPast bytes → ⊥) (A : List (List ℕ) → List (List ℕ) → Type 0) (left now written sent : Option (List ℕ)) (bytes : List ℕ) → left ≡ Some bytes → EndsFine A left now written sent → RunsPast bytes → ⊥
+read_within apart A None now written sent bytes told ends past = cc
+read_within apart A (Some us) None written sent bytes told ends past = absurd ends.taken
+read_within apart A (Some us) (Some vs) written sent bytes told ends past =
     let same : us ≡ bytes = cc in
     let all : ends.bytes ≡ bytes = sym (append-nil ends.bytes) ∙ ap (λ l. ends.bytes ++ l) (sym ends.at_end) ∙ sym ends.taken ∙ same in
-    not_both bytes (subst IsWithin all ends.within) past
+    apart bytes (subst IsWithin all ends.within) past
 
-module _ (A B : List (List ℕ) → List (List ℕ) → Type 0) (start left first old new : Option (List ℕ)) (s : Stream) (r : LineReader) (held : List ℕ) (going : IsGoing A start s first old) where
+module _ (laws : LinesAddUp) (A B : List (List ℕ) → List (List ℕ) → Type 0) (start left first old new : Option (List ℕ)) (s : Stream) (r : LineReader) (held : List ℕ) (going : IsGoing A start s first old) where
   -- a line and its LF were lost, and what is pending behind them
   line_lost : (line : IsLine s (stream r left) held) → Consumes start left (text_of going.lines ++ (line.bytes ++ 10 ∷ pending r))
   line_lost line =
@@ -100,25 +103,25 @@ module _ (A B : List (List ℕ) → List (List ℕ) → Type 0) (start left firs
       (Consumes-trans start s.unread (prepend_known (pending r) left) (text_of going.lines) part.bytes going.taken part.taken) end
 
   -- what was handed on is within the limits
-  handed_within : (part : IsPart s (stream r left) held) → r.lines ≤ 1000000 → r.bytes ≤ 268435456 → IsWithin (text_of going.lines ++ part.bytes)
+  handed_within : (part : IsPart s (stream r left) held) → r.lines ≤ SESSION_LINES → r.bytes ≤ SESSION_BYTES → IsWithin (text_of going.lines ++ part.bytes)
   handed_within part most size =
-      within_part going.lines part.bytes going.whole part.no_lf (grind (arith, most, part.lines, going.number)) (λ some. grind (arith, part.begun some, going.number))
+      laws.within going.lines part.bytes going.whole part.no_lf (grind (arith, most, part.lines, going.number)) (λ some. grind (arith, part.begun some, going.number))
       (grind (arith, size, part.size, going.size))
 
   -- what was answered before is within the limits
-  answered_within : s.lines ≤ 1000000 → s.bytes ≤ 268435456 → IsWithin (text_of going.lines)
-  answered_within most size = whole_within going.lines going.whole (grind (arith, most, going.number)) (grind (arith, size, going.size))
+  answered_within : s.lines ≤ SESSION_LINES → s.bytes ≤ SESSION_BYTES → IsWithin (text_of going.lines)
+  answered_within most size = whole_within laws going.lines going.whole (grind (arith, most, going.number)) (grind (arith, size, going.size))
 
   -- so it is with a line and its LF
-  line_within : (line : IsLine s (stream r left) held) → r.lines ≤ 1000000 → r.bytes ≤ 268435456 → IsWithin (text_of going.lines ++ (line.bytes ++ 10 ∷ []))
+  line_within : (line : IsLine s (stream r left) held) → r.lines ≤ SESSION_LINES → r.bytes ≤ SESSION_BYTES → IsWithin (text_of going.lines ++ (line.bytes ++ 10 ∷ []))
   line_within line most size =
       subst IsWithin (text_of-more going.lines line.bytes)
-      (whole_within (going.lines ++ line.bytes ∷ []) (whole_more going.lines line.bytes going.whole line.no_lf)
+      (whole_within laws (going.lines ++ line.bytes ∷ []) (whole_more going.lines line.bytes going.whole line.no_lf)
       (grind (arith, most, line.lines, going.number, length-append going.lines (line.bytes ∷ [])))
       (grind (arith, size, line.size, going.size, ap length (text_of-more going.lines line.bytes), length-append (text_of going.lines) (with_lf line.bytes), length-append line.bytes (10 ∷ []))))
 
   -- a line's reply isn't whole
-  pub line_broken : (line : IsLine s (stream r left) held) → r.lines ≤ 1000000 → r.bytes ≤ 268435456 → IsReplied B old new line.bytes going.lines going.replies Broken → BreaksOff B start left first new
+  line_broken : (line : IsLine s (stream r left) held) → r.lines ≤ SESSION_LINES → r.bytes ≤ SESSION_BYTES → IsReplied B old new line.bytes going.lines going.replies Broken → BreaksOff B start left first new
   line_broken line most size replied = record {
     lines = going.lines;
     line = line.bytes;
@@ -135,7 +138,7 @@ module _ (A B : List (List ℕ) → List (List ℕ) → Type 0) (start left firs
   }
 
   -- a line wasn't answered
-  pub line_unanswered : (line : IsLine s (stream r left) held) → r.lines ≤ 1000000 → r.bytes ≤ 268435456 → IsReplied B old new line.bytes going.lines going.replies Unanswered → StopsBefore AtWant B start left first new
+  line_unanswered : (line : IsLine s (stream r left) held) → r.lines ≤ SESSION_LINES → r.bytes ≤ SESSION_BYTES → IsReplied B old new line.bytes going.lines going.replies Unanswered → StopsBefore AtWant B start left first new
   line_unanswered line most size replied = record {
     lines = going.lines;
     rest = line.bytes ++ 10 ∷ pending r;
@@ -149,7 +152,7 @@ module _ (A B : List (List ℕ) → List (List ℕ) → Type 0) (start left firs
   }
 
   -- a last line was answered
-  pub last_fine : (part : IsPart s (stream r left) held) → held ≢ [] → IsAtEnd (prepend_known (pending r) left) → r.lines ≤ 1000000 → r.bytes ≤ 268435456
+  last_fine : (part : IsPart s (stream r left) held) → held ≢ [] → IsAtEnd (prepend_known (pending r) left) → r.lines ≤ SESSION_LINES → r.bytes ≤ SESSION_BYTES
       → IsReplied B old new part.bytes going.lines going.replies Whole → EndsFine B start left first new
   last_fine part some end most size replied = record {
     bytes = text_of going.lines ++ part.bytes;
@@ -159,12 +162,12 @@ module _ (A B : List (List ℕ) → List (List ℕ) → Type 0) (start left firs
     within = handed_within part most size;
     put = subst (Appends first new) (sym (text_of-more going.replies replied.0)) (Appends-trans first old new (text_of going.replies) (with_lf replied.0) going.put replied.1);
     answered = subst (λ (l : List (List ℕ)). B l (going.replies ++ replied.0 ∷ []))
-        (sym (lines_of-text going.lines part.bytes going.whole
-        ∙ ap (λ l. going.lines ++ l) (lines_of-last part.bytes (some_held 8193 held part.bytes part.front some) part.no_lf)))
+        (sym (laws.first going.lines part.bytes going.whole
+        ∙ ap (λ l. going.lines ++ l) (laws.last part.bytes (some_held LINE_HELD held part.bytes part.front some) part.no_lf)))
         replied.2;
   }
 
-  pub last_broken : (part : IsPart s (stream r left) held) → held ≢ [] → IsAtEnd (prepend_known (pending r) left) → r.lines ≤ 1000000 → r.bytes ≤ 268435456 → IsReplied B old new part.bytes going.lines going.replies Broken → BreaksOff B start left first new
+  last_broken : (part : IsPart s (stream r left) held) → held ≢ [] → IsAtEnd (prepend_known (pending r) left) → r.lines ≤ SESSION_LINES → r.bytes ≤ SESSION_BYTES → IsReplied B old new part.bytes going.lines going.replies Broken → BreaksOff B start left first new
   last_broken part some end most size replied = record {
     lines = going.lines;
     line = part.bytes;
@@ -175,12 +178,12 @@ module _ (A B : List (List ℕ) → List (List ℕ) → Type 0) (start left firs
     taken = subst (λ (l : List ℕ). Consumes start left (text_of going.lines ++ l)) (sym (append-nil part.bytes)) (last_lost part end);
     whole = whole_more going.lines part.bytes going.whole part.no_lf;
     within = subst (λ (l : List ℕ). IsWithin (text_of going.lines ++ l)) (sym (append-nil part.bytes)) (handed_within part most size);
-    ended = (λ none. absurd (omega (arith, ap length none, some_held 8193 held part.bytes part.front some)), end_left left (pending r) end);
+    ended = (λ none. absurd (omega (arith, ap length none, some_held LINE_HELD held part.bytes part.front some)), end_left left (pending r) end);
     put = broken_put first old new going.replies replied.0 replied.1 going.put replied.2;
     answered = replied.3;
   }
 
-  pub last_unanswered : (part : IsPart s (stream r left) held) → IsAtEnd (prepend_known (pending r) left) → r.lines ≤ 1000000 → r.bytes ≤ 268435456 → IsReplied B old new part.bytes going.lines going.replies Unanswered → StopsBefore AtWant B start left first new
+  last_unanswered : (part : IsPart s (stream r left) held) → IsAtEnd (prepend_known (pending r) left) → r.lines ≤ SESSION_LINES → r.bytes ≤ SESSION_BYTES → IsReplied B old new part.bytes going.lines going.replies Unanswered → StopsBefore AtWant B start left first new
   last_unanswered part end most size replied = record {
     lines = going.lines;
     rest = part.bytes;
@@ -194,9 +197,9 @@ module _ (A B : List (List ℕ) → List (List ℕ) → Type 0) (start left firs
   }
 
   -- the source is at its end
-  pub at_end : (part : IsPart s (stream r left) held) → held ≡ [] → IsAtEnd (prepend_known (pending r) left) → r.lines ≤ 1000000 → r.bytes ≤ 268435456 → EndsFine A start left first old
+  pub at_end : (part : IsPart s (stream r left) held) → held ≡ [] → IsAtEnd (prepend_known (pending r) left) → r.lines ≤ SESSION_LINES → r.bytes ≤ SESSION_BYTES → EndsFine A start left first old
   at_end part none end most size =
-      let empty : part.bytes ≡ [] = none_held 8193 held part.bytes (lit< tt) part.front none in
+      let empty : part.bytes ≡ [] = none_held LINE_HELD held part.bytes (lit< tt) part.front none in
       record {
         bytes = text_of going.lines ++ part.bytes;
         replies = going.replies;
@@ -205,13 +208,13 @@ module _ (A B : List (List ℕ) → List (List ℕ) → Type 0) (start left firs
         within = handed_within part most size;
         put = going.put;
         answered = subst (λ (l : List (List ℕ)). A l going.replies)
-            (sym (lines_of-text going.lines part.bytes going.whole ∙ ap (λ l. going.lines ++ lines_of l) empty ∙ append-nil going.lines)) going.answered;
+            (sym (laws.first going.lines part.bytes going.whole ∙ ap (λ l. going.lines ++ lines_of l) empty ∙ append-nil going.lines)) going.answered;
       }
 
   -- the limits were passed
-  pub at_limit : (part : IsPart s (stream r left) held) → IsSpent (stream r left) → 0 < length (pending r) → r.lines ≤ 1000000 → r.bytes ≤ 268435456 → StopsBefore AtLimit A start left first old
+  pub at_limit : (part : IsPart s (stream r left) held) → IsSpent (stream r left) → 0 < length (pending r) → r.lines ≤ SESSION_LINES → r.bytes ≤ SESSION_BYTES → StopsBefore AtLimit A start left first old
   at_limit part spent some most size =
-      let full : (length going.lines ≡ 1000000) ⊎ (length (text_of going.lines) + length part.bytes ≡ 268435456) =
+      let full : (length going.lines ≡ SESSION_LINES) ⊎ (length (text_of going.lines) + length part.bytes ≡ SESSION_BYTES) =
       elim spent [ inl number ↦ inl (grind (arith, number, part.lines, going.number)) | inr size ↦ inr (grind (arith, size, part.size, going.size)) ] in
       record {
         lines = going.lines;
@@ -220,13 +223,13 @@ module _ (A B : List (List ℕ) → List (List ℕ) → Type 0) (start left firs
         taken = subst (Consumes start left) (append_assoc (text_of going.lines) part.bytes (pending r)) (part_lost part);
         whole = going.whole;
         within = answered_within (grind (arith, most, part.lines)) (grind (arith, size, part.size));
-        why = (past_limit going.lines part.bytes (pending r) going.whole some full, all_within going.lines part.bytes (pending r) part.no_lf full);
+        why = (laws.past going.lines part.bytes (pending r) going.whole some full, laws.part going.lines part.bytes (pending r) part.no_lf full);
         put = going.put;
         answered = going.answered;
       }
 
   -- the source failed
-  pub at_fault : (part : IsPart s (stream r left) held) → pending r ≡ [] → r.lines ≤ 1000000 → r.bytes ≤ 268435456 → StopsBefore AtReadFault A start left first old
+  pub at_fault : (part : IsPart s (stream r left) held) → pending r ≡ [] → r.lines ≤ SESSION_LINES → r.bytes ≤ SESSION_BYTES → StopsBefore AtReadFault A start left first old
   at_fault part none most size = record {
     lines = going.lines;
     rest = part.bytes;
@@ -238,3 +241,17 @@ module _ (A B : List (List ℕ) → List (List ℕ) → Type 0) (start left firs
     put = going.put;
     answered = going.answered;
   }
+
+  -- a line was answered, or not, and the session goes on or ends
+  pub line_turn : (line : IsLine s (stream r left) held) → r.lines ≤ SESSION_LINES → r.bytes ≤ SESSION_BYTES → (reply : Reply) → IsReplied B old new line.bytes going.lines going.replies reply
+      → IsTurn B start left (stream r left) first new (end_after reply None)
+  line_turn line most size Whole replied = one_more A B start first old new s (stream r left) held going line replied
+  line_turn line most size Broken replied = line_broken line most size replied
+  line_turn line most size Unanswered replied = line_unanswered line most size replied
+
+  -- and so it is with a last line, but that the session ends
+  pub last_turn : (part : IsPart s (stream r left) held) → held ≢ [] → IsAtEnd (prepend_known (pending r) left) → r.lines ≤ SESSION_LINES → r.bytes ≤ SESSION_BYTES
+      → (reply : Reply) → IsReplied B old new part.bytes going.lines going.replies reply → IsTurn B start left (stream r left) first new (end_after reply (Some Fine))
+  last_turn part some end most size Whole replied = last_fine part some end most size replied
+  last_turn part some end most size Broken replied = last_broken part some end most size replied
+  last_turn part some end most size Unanswered replied = last_unanswered part end most size replied

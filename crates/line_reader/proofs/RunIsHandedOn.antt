@@ -5,12 +5,14 @@ use Rattle.line_reader.specs.Lines.{HasNoLf, IsFirstLf}
 use Rattle.line_reader.specs.Reading.{pending, held}
 use Rattle.line_reader.specs.Steps.{IsRun}
 use Rattle.line_reader.specs.declared.reader.LineReader.{LineReader}
-use Rattle.line_reader.proofs.PendingLemmas.{split_window, split_at_lf, length_window, length_pending}
+use Rattle.line_reader.proofs.BetweenPlaces.{split_window, split_at_lf, length_window, length_pending}
+use Rattle.line_reader.specs.declared.limits.TheConstants.{SESSION_BYTES}
+use Rattle.line_text.specs.declared.limits.TheConstants.{LINE_HELD}
 
 -- the run ended with LF at the place
 pub run_with_lf : (old new : LineReader) (place mid : ℕ) (window : List ℕ)
-    → window ≡ take (mid - old.next) (drop old.next old.piece.items) → mid ≡ min old.end (old.next + (268435456 - old.bytes))
-    → IsFirstLf window place → held new ≡ take 8193 (held old ++ take place window)
+    → window ≡ take (mid - old.next) (drop old.next old.piece.items) → mid ≡ min old.end (old.next + (SESSION_BYTES - old.bytes))
+    → IsFirstLf window place → held new ≡ take LINE_HELD (held old ++ take place window)
     → pending new ≡ drop (old.next + (place + 1)) (take old.end old.piece.items) → new.lines ≡ old.lines + 1 → new.bytes ≡ old.bytes + (place + 1)
     → IsRun old new true
 run_with_lf old new place mid window at m found front behind lines bytes =
@@ -34,10 +36,10 @@ run_with_lf old new place mid window at m found front behind lines bytes =
 
 -- the run reached the end of the piece or of the limit
 pub run_without_lf : (old new : LineReader) (mid : ℕ) (window : List ℕ)
-    → window ≡ take (mid - old.next) (drop old.next old.piece.items) → mid ≡ min old.end (old.next + (268435456 - old.bytes))
-    → HasNoLf window → held new ≡ take 8193 (held old ++ window)
+    → window ≡ take (mid - old.next) (drop old.next old.piece.items) → mid ≡ min old.end (old.next + (SESSION_BYTES - old.bytes))
+    → HasNoLf window → held new ≡ take LINE_HELD (held old ++ window)
     → pending new ≡ drop mid (take old.end old.piece.items) → new.lines ≡ old.lines → new.bytes ≡ old.bytes + (mid - old.next)
-    → 0 < length (pending old) → old.bytes < 268435456
+    → 0 < length (pending old) → old.bytes < SESSION_BYTES
     → IsRun old new false
 run_without_lf old new mid window at m none front behind lines bytes some room =
     let low : old.next ≤ mid = grind (arith, m, old.ordered) in

@@ -1,8 +1,6 @@
 -- Lines, their texts, and texts in front of others.
 use Rattle.std.proofs.Common.{inl, inr, ◌⊎◌, append-nil, ◌≡◌, ◌≢◌, ℕ, zero, suc, ◌<◌, ◌≤◌, Bool, true, false, ◌==◌, if◌then◌else◌, List, [], ◌∷◌, ◌++◌, All, length, refl, sym, ap, ◌∙◌, append_assoc, arith}
 use Rattle.std.proofs.lemmas.Bool.Decides.{nat_tests}
-use Rattle.std.proofs.lemmas.List.{flat_map_more}
-use Rattle.std.proofs.lemmas.List.Elements.{All-append}
 use Rattle.line_reader.specs.Lines.{onto_first, lines_of, with_lf, text_of, HasNoLf}
 
 head_no_lf : (byte : ℕ) (bytes : List ℕ) → HasNoLf (byte ∷ bytes) → byte ≢ 10
@@ -39,17 +37,6 @@ lines_of-text (line ∷ lines) rest h =
     ap lines_of (append_assoc (with_lf line) (text_of lines) rest ∙ append_assoc line (10 ∷ []) (text_of lines ++ rest))
     ∙ lines_of-line line (text_of lines ++ rest) (h 0 [] (omega arith))
     ∙ ap (λ l. line ∷ l) (lines_of-text lines rest (tail_whole line lines h))
-
--- one line more
-pub text_of-more : (lines : List (List ℕ)) (line : List ℕ) → text_of (lines ++ line ∷ []) ≡ text_of lines ++ with_lf line
-text_of-more lines line = sym (flat_map_more with_lf [] lines line)
-
-all_one : (line : List ℕ) → HasNoLf line → All HasNoLf (line ∷ [])
-all_one line h zero d lt = h
-all_one line h (suc k) d lt = absurd (omega arith)
-
-pub whole_more : (lines : List (List ℕ)) (line : List ℕ) → All HasNoLf lines → HasNoLf line → All HasNoLf (lines ++ line ∷ [])
-whole_more lines line h k = All-append HasNoLf lines (line ∷ []) h (all_one line k)
 
 -- some bytes are at least one line
 pub lines_of-some : (bytes : List ℕ) → 0 < length bytes → 0 < length (lines_of bytes)
