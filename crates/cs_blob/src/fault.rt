@@ -2,6 +2,7 @@
 
 ghost use Rattle.std.specs.Prelude.{◌≡◌, ◌+◌, ◌≤◌, ◌++◌, length, decimal};
 ghost use Rattle.line_text.specs.LineText.{line_bytes};
+ghost use Rattle.line_text.specs.declared.limits.TheConstants.{LINE_ROOM};
 
 use req_tree::LineText;
 use std::alloc::{AllocError, AllocFailed};
@@ -30,11 +31,12 @@ pub enum BlobFault {
 impl BlobFault {
     ghost use Rattle.std.specs.Prelude.{◌≡◌, ◌+◌, ◌≤◌, ◌++◌, length};
     ghost use Rattle.line_text.specs.LineText.{line_bytes};
+    ghost use Rattle.line_text.specs.declared.limits.TheConstants.{FRONT_LIMIT};
     ghost use Rattle.cs_blob.specs.FaultText.{blob_fault_text};
 
     /// Appends the refusal's number, its name and its fields.
     pub fn line_into(&self, out: &mut LineText)
-        requires { length (line_bytes out.old) ≤ 600 }
+        requires { length (line_bytes out.old) ≤ FRONT_LIMIT + 200 }
         ensures text { line_bytes out.new ≡ line_bytes out.old ++ blob_fault_text self.now }
         ensures length { length (line_bytes out.new) ≤ length (line_bytes out.old) + 50 }
     {
@@ -51,12 +53,11 @@ impl BlobFault {
 }
 
 fn push_field(out: &mut LineText, name: &[u8], number: u32)
-    requires { length (line_bytes out.old) + length name.now ≤ 650 }
+    requires { length (line_bytes out.old) + (length name.now + 20) ≤ LINE_ROOM }
     ensures text { line_bytes out.new ≡ line_bytes out.old ++ (name.now ++ decimal number) }
     ensures length { length (line_bytes out.new) ≤ length (line_bytes out.old) + (length name.now + 20) }
 {
-    out.push_all(name);
-    out.push_number(u64::from(number));
+    out.push_field(name, u64::from(number));
 }
 
 /// Why a part can't be added: the first of these that holds, in this order.

@@ -7,7 +7,8 @@ use Rattle.std.proofs.lemmas.Bool.Decides.{nat_tests}
 use Rattle.std.proofs.lemmas.List.{take_at, drop_at, append-nil, nil_from_length, length-drop}
 use Rattle.byteorder.specs.Endian.{big_number}
 use Rattle.req_tree.specs.Tree.{Tree, tree_of}
-use Rattle.req_tree.specs.Depth.{depth_of}
+use Rattle.req_tree.specs.declared.limits.TheConstants.{MOST_DEPTH}
+use Rattle.req_tree.specs.Spellable.{IsShallow}
 use Rattle.req_tree.specs.declared.req.Req.{Req}
 use Rattle.req_tree.specs.Oid.{IsBytes}
 use Rattle.cs_blob.specs.Numbers.{word, number_at}
@@ -20,6 +21,7 @@ use Rattle.req_blob.specs.declared.fault.OpsFault.{OpsFault}
 use Rattle.req_blob.specs.declared.fault.OpsFault.TheVariants as fault
 use Rattle.req_blob.specs.Spelling.{Spells, IsSpelling, requirement, requirement_magic}
 use Rattle.req_blob.specs.Reading.{◌>>=◌, Gives, place, word_at, req_at}
+use Rattle.req_blob.specs.declared.limits.TheConstants.{MOST_BYTES}
 use Rattle.req_blob.specs.Decoding.{blob_when, blob_at, body_at, ended, whole_of, decoded}
 use Rattle.req_blob.proofs.Fields.{bind_ok, ok_is, Takes, IsBytes-drop, IsBytes-take, length-word, word_takes, word_again}
 use Rattle.req_blob.proofs.Trees.{req_taken, req_again}
@@ -145,20 +147,20 @@ record BodyTaken (body : List ℕ) (x : Tree × List ℕ) : Type 0 where
   text : List ℕ
   parts : body ≡ word 1 ++ (text ++ x.1)
   spells : Spells x.0 text
-  shallow : depth_of x.0 ≤ 256
+  shallow : IsShallow x.0
 
 body_taken : (size : ℕ) (body : List ℕ) (x : Tree × List ℕ) → IsBytes body → body_at size body ≡ Ok x → BodyTaken body x
 unfolding body_at
 body_taken size body x are e =
-    let k = bind_ok (word_at size body) (λ kind. cond (eqb kind.0 1) (req_at size 256 kind.1) (Err fault.BadKind)) x e in
+    let k = bind_ok (word_at size body) (λ kind. cond (eqb kind.0 1) (req_at size MOST_DEPTH kind.1) (Err fault.BadKind)) x e in
     let w = word_takes size body k.0 are k.1 in
     by_kind k.0.0 k.0.1 (eqb k.0.0 1) refl w.0 k.2
   where
-    by_kind : (n : ℕ) (rest : List ℕ) (b : Bool) → eqb n 1 ≡ b → Takes body (word n) rest → cond b (req_at size 256 rest) (Err fault.BadKind) ≡ Ok x → BodyTaken body x
+    by_kind : (n : ℕ) (rest : List ℕ) (b : Bool) → eqb n 1 ≡ b → Takes body (word n) rest → cond b (req_at size MOST_DEPTH rest) (Err fault.BadKind) ≡ Ok x → BodyTaken body x
     by_kind n rest false t w h = absurd cc
     by_kind n rest true t w h =
         let is : n ≡ 1 = eqb-true _ _ t in
-        let s = req_taken size 256 rest x w.rest_fits h in
+        let s = req_taken size MOST_DEPTH rest x w.rest_fits h in
         record { text = s.text; parts = w.parts ∙ ap (λ (m : ℕ). word m ++ rest) is ∙ ap (λ (r : List ℕ). word 1 ++ r) s.taken.parts; spells = s.spells; shallow = s.shallow }
 
 ended_with : (size : ℕ) (x : Tree × List ℕ) (rest : List ℕ) (tree : Tree) → ended size x rest ≡ Ok tree → (x.1 ≡ []) × (rest ≡ []) × (x.0 ≡ tree)
@@ -176,13 +178,13 @@ unfolding decoded blob_at whole_of
 decoded_spells bytes tree are e =
     let b = bind_ok (blob_when (blob_fault requirement_magic bytes) bytes) (λ blob. whole_of blob.0 blob.1) tree e in
     let found = blob_found (blob_fault requirement_magic bytes) bytes b.0 refl b.1 in
-    by_size b.0.0 b.0.1 found.0 found.1 (ltb 1048576 (length b.0.0)) refl b.2
+    by_size b.0.0 b.0.1 found.0 found.1 (ltb MOST_BYTES (length b.0.0)) refl b.2
   where
-    by_size : (whole rest : List ℕ) → IsBlob requirement_magic whole → bytes ≡ whole ++ rest → (c : Bool) → ltb 1048576 (length whole) ≡ c
+    by_size : (whole rest : List ℕ) → IsBlob requirement_magic whole → bytes ≡ whole ++ rest → (c : Bool) → ltb MOST_BYTES (length whole) ≡ c
         → cond c (Err fault.TooLong) (body_at (length whole) (drop 8 whole) >>= λ x. ended (length whole) x rest) ≡ Ok tree → IsSpelling tree bytes
     by_size whole rest blob parts true t h = absurd cc
     by_size whole rest blob parts false t h =
-        let short : length whole ≤ 1048576 = ltb-false _ _ t in
+        let short : length whole ≤ MOST_BYTES = ltb-false _ _ t in
         let whole_are : IsBytes whole = IsBytes-front whole rest (subst IsBytes parts are) in
         let x = bind_ok (body_at (length whole) (drop 8 whole)) (λ y. ended (length whole) y rest) tree h in
         let body = body_taken (length whole) (drop 8 whole) x.0 (IsBytes-drop 8 whole whole_are) x.1 in
@@ -199,15 +201,15 @@ decoded_spells bytes tree are e =
           expression = body.text;
           blob = whole_is_all ∙ blob_is;
           spelled = subst (λ (y : Tree). Spells y body.text) last.2 body.spells;
-          shallow = subst (λ (y : Tree). depth_of y ≤ 256) last.2 body.shallow;
-          short = subst (λ (y : List ℕ). length y ≤ 1048576) (sym whole_is_all) short;
+          shallow = subst (λ (y : Tree). IsShallow y) last.2 body.shallow;
+          short = subst (λ (y : List ℕ). length y ≤ MOST_BYTES) (sym whole_is_all) short;
         }
 
-body_again : (size : ℕ) (tree : Tree) (expression : List ℕ) → Spells tree expression → depth_of tree ≤ 256 → body_at size (word 1 ++ expression) ≡ Ok (tree, [])
+body_again : (size : ℕ) (tree : Tree) (expression : List ℕ) → Spells tree expression → IsShallow tree → body_at size (word 1 ++ expression) ≡ Ok (tree, [])
 unfolding body_at
 body_again size tree expression spelled shallow =
-    let read : req_at size 256 expression ≡ Ok (tree, []) = ap (req_at size 256) (sym (append-nil expression)) ∙ req_again tree size 256 expression [] shallow spelled in
-    ap (λ (r : Result (ℕ × List ℕ) OpsFault). r >>= λ kind. cond (eqb kind.0 1) (req_at size 256 kind.1) (Err fault.BadKind)) (word_again size 1 expression (omega arith)) ∙ read
+    let read : req_at size MOST_DEPTH expression ≡ Ok (tree, []) = ap (req_at size 256) (sym (append-nil expression)) ∙ req_again tree size MOST_DEPTH expression [] shallow spelled in
+    ap (λ (r : Result (ℕ × List ℕ) OpsFault). r >>= λ kind. cond (eqb kind.0 1) (req_at size MOST_DEPTH kind.1) (Err fault.BadKind)) (word_again size 1 expression (omega arith)) ∙ read
 
 drop-header : (magic n : ℕ) (body : List ℕ) → drop 8 (word magic ++ (word n ++ body)) ≡ body
 drop-header magic n body =
@@ -215,18 +217,18 @@ drop-header magic n body =
     ∙ ap (drop 4) (drop_at (word magic) (word n ++ body) 4 (length-word magic))
     ∙ drop_at (word n) body 4 (length-word n)
 
-spelling_decoded : (tree : Tree) (expression : List ℕ) → Spells tree expression → depth_of tree ≤ 256 → length (requirement expression) ≤ 1048576 → decoded (requirement expression) ≡ Ok tree
+spelling_decoded : (tree : Tree) (expression : List ℕ) → Spells tree expression → IsShallow tree → length (requirement expression) ≤ MOST_BYTES → decoded (requirement expression) ≡ Ok tree
 unfolding decoded whole_of ended
 spelling_decoded tree expression spelled shallow short =
     let blob : IsBlob requirement_magic (requirement expression) = requirement_blob expression (omega (arith, short)) in
-    let fits : ltb 1048576 (length (requirement expression)) ≡ false = le-ltb _ _ short in
+    let fits : ltb MOST_BYTES (length (requirement expression)) ≡ false = le-ltb _ _ short in
     let body : body_at (length (requirement expression)) (drop 8 (requirement expression)) ≡ Ok (tree, []) = ap (body_at (length (requirement expression))) (drop-header requirement_magic (12 + length expression) (word 1 ++ expression)) ∙ body_again (length (requirement expression)) tree expression spelled shallow in
     ap (λ (r : Result (List ℕ × List ℕ) OpsFault). r >>= λ b. whole_of b.0 b.1) (blob_taken (requirement expression) (requirement expression) [] (blob, sym (append-nil (requirement expression))))
     ∙ ap (λ (c : Bool). cond c (Err fault.TooLong) (body_at (length (requirement expression)) (drop 8 (requirement expression)) >>= λ x. ended (length (requirement expression)) x [])) fits
     ∙ ap (λ (r : Result (Tree × List ℕ) OpsFault). r >>= λ x. ended (length (requirement expression)) x []) body
 
 pub spells_decoded : (bytes : List ℕ) (tree : Tree) → IsSpelling tree bytes → decoded bytes ≡ Ok tree
-spells_decoded bytes tree is = ap decoded is.blob ∙ spelling_decoded tree is.expression is.spelled is.shallow (subst (λ (y : List ℕ). length y ≤ 1048576) is.blob is.short)
+spells_decoded bytes tree is = ap decoded is.blob ∙ spelling_decoded tree is.expression is.spelled is.shallow (subst (λ (y : List ℕ). length y ≤ MOST_BYTES) is.blob is.short)
 
 -- ---- the public call
 

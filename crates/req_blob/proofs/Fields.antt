@@ -16,7 +16,8 @@ use Rattle.req_blob.specs.declared.fault.OpsFault.{OpsFault}
 use Rattle.req_blob.specs.declared.fault.OpsFault.TheVariants as fault
 use Rattle.cs_blob.specs.Numbers.{word}
 use Rattle.req_blob.specs.Words.{signed_word, datum, unpadded, match_text, padding, zeros}
-use Rattle.req_blob.specs.Spelling.{IsText, IsSlot, IsHash, IsFieldKey, IsOidDatum, IsTest, is_reserved}
+use Rattle.req_blob.specs.Spelling.{IsText, IsSlot, IsHash, IsFieldKey, IsOidDatum, IsTest}
+use Rattle.req_tree.specs.Spellable.{is_reserved}
 use Rattle.req_blob.specs.Reading.{◌>>=◌, place, word_at, signed_at, padded_at, datum_at, unpadded_at, hash_at, key_at, oid_of, oid_at, comparison, comparison_at, test_at, match_at}
 use Rattle.req_tree.specs.OidReading.{is_oid}
 use Rattle.req_tree.proofs.OidTest.{is_oid-sound, is_oid-complete}

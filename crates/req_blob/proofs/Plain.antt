@@ -5,10 +5,11 @@ use Rattle.req_tree.specs.declared.matching.Match.{Match}
 use Rattle.req_tree.specs.declared.matching.Match.TheVariants.{Exists, Absent, Equal, Contains, Begins, Ends, Less, Greater, LessEqual, GreaterEqual}
 use Rattle.req_tree.specs.Tree as t
 use Rattle.req_tree.specs.Tree.{Tree}
+use Rattle.req_tree.specs.Spellable.{CanSpell}
 use Rattle.cs_blob.specs.Numbers.{word}
 use Rattle.req_blob.specs.Words.{signed_word, datum, unpadded, match_text}
 use Rattle.req_blob.specs.Spelling.{Spells, Marked, IsText, IsTest, plain}
-use Rattle.req_blob.specs.Encoding.{CanSpell, HasFields}
+use Rattle.req_blob.specs.Encoding.{HasFields}
 use Rattle.req_blob.proofs.Fields.{length-word}
 use Rattle.req_blob.proofs.Lengths.{length-datum, length-unpadded}
 

@@ -5,17 +5,19 @@ use Rattle.std.proofs.lemmas.Bool.{le-ltb, cases_lt}
 use Rattle.std.proofs.lemmas.Bool.Decides.{nat_tests}
 use Rattle.req_tree.specs.Tree.{Tree, tree_of}
 use Rattle.req_tree.specs.declared.req.Req.{Req}
+use Rattle.req_tree.specs.Spellable.{IsEncodable}
 use Rattle.req_blob.specs.declared.fault.OpsFault.{OpsFault}
 use Rattle.req_blob.specs.declared.fault.OpsFault.TheVariants as fault
 use Rattle.req_blob.specs.Spelling.{IsSpelling, IsPlain, plain, plain_blob, requirement}
-use Rattle.req_blob.specs.Encoding.{IsEncodable, HasFields, encoded}
+use Rattle.req_blob.specs.declared.limits.TheConstants.{MOST_BYTES}
+use Rattle.req_blob.specs.Encoding.{HasFields, encoded}
 use Rattle.req_blob.specs.Reading.{Gives}
 use Rattle.req_blob.proofs.Fields.{ok_is}
 use Rattle.req_blob.proofs.Blobs.{length-requirement, one_tree}
 use Rattle.req_blob.specs.Decoding.{decoded}
 use Rattle.req_blob.proofs.Plain.{plain_spells, spelled_can, spelled_size}
 
-pub is_plain : (tree : Tree) (bytes : List ℕ) → IsEncodable tree → HasFields tree → length (plain_blob tree) ≤ 1048576 → bytes ≡ plain_blob tree → IsPlain tree bytes
+pub is_plain : (tree : Tree) (bytes : List ℕ) → IsEncodable tree → HasFields tree → length (plain_blob tree) ≤ MOST_BYTES → bytes ≡ plain_blob tree → IsPlain tree bytes
 is_plain tree bytes can has short is =
     let size : length (plain_blob tree) ≡ 12 + length (plain tree) = length-requirement (plain tree) in
     record {
@@ -24,7 +26,7 @@ is_plain tree bytes can has short is =
         blob = is;
         spelled = plain_spells tree has can.spellable (omega (arith, size, short));
         shallow = can.shallow;
-        short = subst (λ (b : List ℕ). length b ≤ 1048576) (sym is) short;
+        short = subst (λ (b : List ℕ). length b ≤ MOST_BYTES) (sym is) short;
       };
       plain_is = is;
     }
@@ -38,23 +40,23 @@ found_can bytes (Err e) h = tt
 
 -- ---- sizes
 
-pub long_size : (n : ℕ) (tree : Tree) → n ≡ min (length (plain tree)) 1048577 → 1048576 < 12 + n → 1048576 < length (plain_blob tree)
+pub long_size : (n : ℕ) (tree : Tree) → n ≡ min (length (plain tree)) (MOST_BYTES + 1) → MOST_BYTES < 12 + n → MOST_BYTES < length (plain_blob tree)
 long_size n tree is h =
     let size : length (plain_blob tree) ≡ 12 + length (plain tree) = length-requirement (plain tree) in
     omega (arith, size, is, h)
 
-pub short_size : (n : ℕ) (tree : Tree) → n ≡ min (length (plain tree)) 1048577 → 12 + n ≤ 1048576 → length (plain_blob tree) ≤ 1048576
+pub short_size : (n : ℕ) (tree : Tree) → n ≡ min (length (plain tree)) (MOST_BYTES + 1) → 12 + n ≤ MOST_BYTES → length (plain_blob tree) ≤ MOST_BYTES
 short_size n tree is h =
     let size : length (plain_blob tree) ≡ 12 + length (plain tree) = length-requirement (plain tree) in
     omega (arith, size, is, h)
 
-pub encoded_long : (tree : Tree) → 1048576 < length (plain_blob tree) → encoded tree ≡ Err fault.TooLong
-encoded_long tree long = ap (λ (b : Bool). cond b (Err fault.TooLong) (Ok (plain_blob tree))) (is_less 1048576 (length (plain_blob tree)) long)
+pub encoded_long : (tree : Tree) → MOST_BYTES < length (plain_blob tree) → encoded tree ≡ Err fault.TooLong
+encoded_long tree long = ap (λ (b : Bool). cond b (Err fault.TooLong) (Ok (plain_blob tree))) (is_less MOST_BYTES (length (plain_blob tree)) long)
   where
     is_less : (m n : ℕ) → m < n → ltb m n ≡ true
     is_less m n h = grind (arith, nat_tests)
 
-pub encoded_short : (tree : Tree) (bytes : List ℕ) → length (plain_blob tree) ≤ 1048576 → bytes ≡ plain_blob tree → encoded tree ≡ Ok bytes
+pub encoded_short : (tree : Tree) (bytes : List ℕ) → length (plain_blob tree) ≤ MOST_BYTES → bytes ≡ plain_blob tree → encoded tree ≡ Ok bytes
 encoded_short tree bytes short is = ap (λ (b : Bool). cond b (Err fault.TooLong) (Ok (plain_blob tree))) (le-ltb _ _ short) ∙ ap Ok (sym is)
 
 -- ---- the blob of an expression
@@ -63,7 +65,7 @@ encoded_short tree bytes short is = ap (λ (b : Bool). cond b (Err fault.TooLong
 abbrev pub BlobTold : Result (List ℕ) OpsFault → List ℕ → Type 0
 BlobTold r body =
     IfOk r (λ b. b ≡ requirement body)
-    × ((IsErrOf r fault.TooLong → 1048576 < 12 + length body) × (1048576 < 12 + length body → IsErrOf r fault.TooLong))
+    × ((IsErrOf r fault.TooLong → MOST_BYTES < 12 + length body) × (MOST_BYTES < 12 + length body → IsErrOf r fault.TooLong))
     × IfErr r (λ e. (e ≡ fault.OutOfMemory) ⊎ (e ≡ fault.TooLong))
 
 ok_is_no_err : (bytes : List ℕ) (e : OpsFault) → ◌≡◌ {A = Result (List ℕ) OpsFault} (Ok bytes) (Err e) → ⊥
@@ -75,9 +77,9 @@ same_err d e h = cc
 blob_size : (tree : Tree) (body : List ℕ) → body ≡ plain tree → length (plain_blob tree) ≡ 12 + length body
 blob_size tree body is = length-requirement (plain tree) ∙ ap (λ (b : List ℕ). 12 + length b) (sym is)
 
-blob_short : (tree : Tree) (body bytes : List ℕ) → body ≡ plain tree → BlobTold (Ok bytes) body → length (plain_blob tree) ≤ 1048576
+blob_short : (tree : Tree) (body bytes : List ℕ) → body ≡ plain tree → BlobTold (Ok bytes) body → length (plain_blob tree) ≤ MOST_BYTES
 blob_short tree body bytes is told =
-    elim (cases_lt 1048576 (12 + length body)) [
+    elim (cases_lt MOST_BYTES (12 + length body)) [
       | inl long ↦ absurd (ok_is_no_err bytes fault.TooLong (told.1.1 long))
       | inr le ↦ omega (arith, blob_size tree body is, le)
     ]
@@ -87,7 +89,7 @@ blob_plain (Ok bytes) tree body can has is told = is_plain tree bytes can has (b
 blob_plain (Err e) tree body can has is told = tt
 
 pub blob_long : (r : Result (List ℕ) OpsFault) (tree : Tree) (body : List ℕ) → body ≡ plain tree → BlobTold r body
-    → (IsErrOf r fault.TooLong → 1048576 < length (plain_blob tree)) × (1048576 < length (plain_blob tree) → IsErrOf r fault.TooLong)
+    → (IsErrOf r fault.TooLong → MOST_BYTES < length (plain_blob tree)) × (MOST_BYTES < length (plain_blob tree) → IsErrOf r fault.TooLong)
 blob_long r tree body is told = (
   λ err. let long = told.1.0 err in omega (arith, long, blob_size tree body is),
   λ long. told.1.1 (omega (arith, long, blob_size tree body is)),
@@ -104,11 +106,11 @@ blob_exact (Err e) tree body is told = λ other. by_fault told.2 other
         encoded_long tree (omega (arith, more, blob_size tree body is)) ∙ ap Err (sym long)
 
 -- memory was wanting, or the requirement is too long all the same
-pub wanting_long : (e : OpsFault) (tree : Tree) → (e ≡ fault.TooLong → 1048576 < length (plain_blob tree)) × (1048576 < length (plain_blob tree) → e ≡ fault.TooLong)
-    → (◌≡◌ {A = Result (List ℕ) OpsFault} (Err e) (Err fault.TooLong) → 1048576 < length (plain_blob tree)) × (1048576 < length (plain_blob tree) → ◌≡◌ {A = Result (List ℕ) OpsFault} (Err e) (Err fault.TooLong))
+pub wanting_long : (e : OpsFault) (tree : Tree) → (e ≡ fault.TooLong → MOST_BYTES < length (plain_blob tree)) × (MOST_BYTES < length (plain_blob tree) → e ≡ fault.TooLong)
+    → (◌≡◌ {A = Result (List ℕ) OpsFault} (Err e) (Err fault.TooLong) → MOST_BYTES < length (plain_blob tree)) × (MOST_BYTES < length (plain_blob tree) → ◌≡◌ {A = Result (List ℕ) OpsFault} (Err e) (Err fault.TooLong))
 wanting_long e tree both = (λ err. both.0 (same_err e fault.TooLong err), λ long. ap Err (both.1 long))
 
-pub wanting_exact : (e : OpsFault) (tree : Tree) → (e ≡ fault.TooLong → 1048576 < length (plain_blob tree)) → ((e ≡ fault.OutOfMemory) ⊎ (e ≡ fault.TooLong)) → e ≢ fault.OutOfMemory → encoded tree ≡ Err e
+pub wanting_exact : (e : OpsFault) (tree : Tree) → (e ≡ fault.TooLong → MOST_BYTES < length (plain_blob tree)) → ((e ≡ fault.OutOfMemory) ⊎ (e ≡ fault.TooLong)) → e ≢ fault.OutOfMemory → encoded tree ≡ Err e
 wanting_exact e tree long (inl memory) other = absurd (other memory)
 wanting_exact e tree long (inr is) other = encoded_long tree (long is) ∙ ap Err (sym is)
 
@@ -140,12 +142,12 @@ pub same_again : (r : Result Req OpsFault) (tree : Tree) → Gives tree_of r (Ok
 same_again (Ok req) tree given = sym (ok_is tree (tree_of req) given)
 same_again (Err e) tree given = tt
 
-pub fault_again : (r : Result Req OpsFault) (tree : Tree) → Gives tree_of r (Ok tree) → IfErr r (λ e. (e ≡ fault.OutOfMemory) ⊎ ((e ≡ fault.TooLong) × (1048576 < length (plain_blob tree))))
+pub fault_again : (r : Result Req OpsFault) (tree : Tree) → Gives tree_of r (Ok tree) → IfErr r (λ e. (e ≡ fault.OutOfMemory) ⊎ ((e ≡ fault.TooLong) × (MOST_BYTES < length (plain_blob tree))))
 fault_again (Ok req) tree given = tt
 fault_again (Err e) tree given = inl (memory_alone e (λ other. ok_not_err tree e (given other)))
 
-pub fault_written : (e : OpsFault) (tree : Tree) → (e ≢ fault.OutOfMemory → encoded tree ≡ Err e) → (e ≡ fault.OutOfMemory) ⊎ ((e ≡ fault.TooLong) × (1048576 < length (plain_blob tree)))
-fault_written e tree given = by_size (ltb 1048576 (length (plain_blob tree))) refl given
+pub fault_written : (e : OpsFault) (tree : Tree) → (e ≢ fault.OutOfMemory → encoded tree ≡ Err e) → (e ≡ fault.OutOfMemory) ⊎ ((e ≡ fault.TooLong) × (MOST_BYTES < length (plain_blob tree)))
+fault_written e tree given = by_size (ltb MOST_BYTES (length (plain_blob tree))) refl given
   where
     too_long : OpsFault → ◌≡◌ {A = Result (List ℕ) OpsFault} (Err fault.TooLong) (Err e) → e ≡ fault.TooLong
     too_long d h = cc
@@ -169,8 +171,8 @@ fault_written e tree given = by_size (ltb 1048576 (length (plain_blob tree))) re
     is_memory fault.TooLong = inr (λ p. cc)
     is_memory (fault.BadKey at) = inr (λ p. cc)
 
-    by_size : (b : Bool) → ltb 1048576 (length (plain_blob tree)) ≡ b → (e ≢ fault.OutOfMemory → cond b (Err fault.TooLong) (Ok (plain_blob tree)) ≡ Err e)
-        → (e ≡ fault.OutOfMemory) ⊎ ((e ≡ fault.TooLong) × (1048576 < length (plain_blob tree)))
+    by_size : (b : Bool) → ltb MOST_BYTES (length (plain_blob tree)) ≡ b → (e ≢ fault.OutOfMemory → cond b (Err fault.TooLong) (Ok (plain_blob tree)) ≡ Err e)
+        → (e ≡ fault.OutOfMemory) ⊎ ((e ≡ fault.TooLong) × (MOST_BYTES < length (plain_blob tree)))
     by_size true long h =
         elim (is_memory e) [
           | inl is ↦ inl is
@@ -202,9 +204,9 @@ respelled_fault (Err e) tree bytes spelled given = λ other. absurd (elim (fault
   | inr long ↦ not_long long.1
 ])
   where
-    not_long : 1048576 < length (plain_blob tree) → ⊥
+    not_long : MOST_BYTES < length (plain_blob tree) → ⊥
     not_long long =
-        let short : length bytes ≤ 1048576 = spelled.short in
+        let short : length bytes ≤ MOST_BYTES = spelled.short in
         let size : length bytes ≡ 12 + length spelled.expression = ap length spelled.blob ∙ length-requirement spelled.expression in
         let same : length spelled.expression ≡ length (plain tree) = spelled_size tree spelled.expression spelled.spelled in
         absurd (omega (arith, long, short, size, same, length-requirement (plain tree)))

@@ -1,6 +1,8 @@
 -- A requirement blob read whole, as its tree or the first fault that is met.
 use Rattle.std.specs.Prelude.{ℕ, ◌==◌, nat_lt, if◌then◌else◌, List, length, take, drop, Option, Some, None, Result, Ok, Err}
 use Rattle.req_tree.specs.Tree.{Tree}
+use Rattle.req_tree.specs.declared.limits.TheConstants.{MOST_DEPTH}
+use Rattle.req_blob.specs.declared.limits.TheConstants.{MOST_BYTES}
 use Rattle.cs_blob.specs.Numbers.{number_at}
 use Rattle.cs_blob.specs.Blobs.{blob_fault}
 use Rattle.cs_blob.specs.declared.fault.BlobFault.{BlobFault}
@@ -22,7 +24,7 @@ blob_at bytes = blob_when (blob_fault requirement_magic bytes) bytes
 unfoldable pub body_at : ℕ → List ℕ → Result (Tree × List ℕ) OpsFault
 body_at size body = do
   kind ← word_at size body
-  if kind.0 == 1 then req_at size 256 kind.1 else Err fault.BadKind
+  if kind.0 == 1 then req_at size MOST_DEPTH kind.1 else Err fault.BadKind
 
 -- nothing is left behind the expression, nor behind the blob
 unfoldable pub ended : ℕ → Tree × List ℕ → List ℕ → Result Tree OpsFault
@@ -31,7 +33,7 @@ ended size x rest = if length x.1 == 0 then (if length rest == 0 then Ok x.0 els
 -- the tree of a blob with a rest behind it
 unfoldable pub whole_of : List ℕ → List ℕ → Result Tree OpsFault
 whole_of whole rest =
-    if nat_lt 1048576 (length whole) then Err fault.TooLong
+    if nat_lt MOST_BYTES (length whole) then Err fault.TooLong
     else (body_at (length whole) (drop 8 whole) >>= λ x. ended (length whole) x rest)
 
 -- the tree of bytes that are one blob, or the first fault

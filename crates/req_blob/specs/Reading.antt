@@ -14,7 +14,7 @@ use Rattle.req_blob.specs.declared.opcode.Leaf.TheVariants as l
 use Rattle.req_blob.specs.declared.opcode.Opcode.{Opcode}
 use Rattle.req_blob.specs.declared.opcode.Opcode.TheVariants as o
 use Rattle.req_blob.specs.Words.{padding}
-use Rattle.req_blob.specs.Spelling.{is_reserved}
+use Rattle.req_tree.specs.Spellable.{is_reserved}
 use Rattle.req_blob.specs.Opcodes.{opcode_of}
 
 -- one step after another, up to the first fault

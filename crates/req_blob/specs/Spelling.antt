@@ -2,16 +2,16 @@
 -- This project's own: an expression is at most 256 deep and a blob has at most 1,048,576 bytes; bytes
 -- after an unknown opcode are not filled up; the key of a certificate's field doesn't begin as the
 -- text of another opcode does; an object identifier is well formed.
-use Rattle.std.specs.Prelude.{ℕ, ℤ, ◌≡◌, ◌+◌, ◌%◌, ◌^◌, ◌<◌, ◌≤◌, Bool, false, ◌==◌, ◌||◌, List, [], ◌++◌, length, codes, FitsSigned}
+use Rattle.std.specs.Prelude.{ℕ, ℤ, ◌≡◌, ◌+◌, ◌%◌, ◌^◌, ◌<◌, ◌≤◌, false, List, [], ◌++◌, length, FitsSigned}
 use Rattle.std.specs.Int.{w32}
-use Rattle.std.specs.List.{starts_with}
 use Rattle.req_tree.specs.declared.matching.Match.{Match}
 use Rattle.req_tree.specs.declared.matching.Match.TheVariants.{Exists, Absent, Equal, Contains, Begins, Ends, Less, Greater, LessEqual, GreaterEqual}
 use Rattle.req_tree.specs.Tree as t
 use Rattle.req_tree.specs.Tree.{Tree}
-use Rattle.req_tree.specs.Depth.{depth_of}
 use Rattle.req_tree.specs.Oid.{IsOidBytes}
+use Rattle.req_tree.specs.Spellable.{is_reserved, IsSkipFalse, IsSkipNext, IsShallow}
 use Rattle.cs_blob.specs.Numbers.{word}
+use Rattle.req_blob.specs.declared.limits.TheConstants.{MOST_BYTES}
 use Rattle.req_blob.specs.Words.{signed_word, datum, unpadded, match_text}
 
 -- a length that a word holds
@@ -25,10 +25,6 @@ IsSlot number = FitsSigned w32 number
 -- a SHA-1 hash has 20 bytes
 abbrev pub IsHash : List ℕ → Type 0
 IsHash bytes = length bytes ≡ 20
-
--- the key begins as those that text gives to other opcodes: field. policy. timestamp.
-abbrev pub is_reserved : List ℕ → Bool
-is_reserved key = starts_with ◌==◌ key (codes "field.") || starts_with ◌==◌ key (codes "policy.") || starts_with ◌==◌ key (codes "timestamp.")
 
 -- the key of a certificate's field: a text that begins as no other opcode's does
 abbrev pub IsFieldKey : List ℕ → Type 0
@@ -57,18 +53,6 @@ pub record Marked (opcode : ℕ) (operands bytes : List ℕ) : Type 0 where
   pub small : first < 2 ^ 32
   pub known : first % 2 ^ 24 ≡ opcode
   pub parts : bytes ≡ word first ++ operands
-
--- no known opcode, with the highest bit: false, whatever it would have said
-pub record IsSkipFalse (op : ℕ) : Type 0 where
-  pub unknown : 24 ≤ op % 2 ^ 24
-  pub flagged : 2 ^ 31 ≤ op
-  pub small : op < 2 ^ 32
-
--- no known opcode, with the second bit and without the highest: as if it were not there
-pub record IsSkipNext (op : ℕ) : Type 0 where
-  pub unknown : 24 ≤ op % 2 ^ 24
-  pub flagged : 2 ^ 30 ≤ op
-  pub small : op < 2 ^ 31
 
 -- the bytes are an expression, and this is its tree
 abbrev pub Spells : Tree → List ℕ → Type 0
@@ -111,8 +95,8 @@ pub record IsSpelling (tree : Tree) (bytes : List ℕ) : Type 0 where
   pub expression : List ℕ
   pub blob : bytes ≡ requirement expression
   pub spelled : Spells tree expression
-  pub shallow : depth_of tree ≤ 256
-  pub short : length bytes ≤ 1048576
+  pub shallow : IsShallow tree
+  pub short : length bytes ≤ MOST_BYTES
 
 -- the expression without a flag on any known opcode
 abbrev pub plain : Tree → List ℕ

@@ -3,25 +3,20 @@
 ghost use Rattle.std.specs.Prelude.{◌≡◌, ◌≤◌, length, IfOk, Ok};
 ghost use Rattle.req_tree.specs.Tree.{Tree, tree_of};
 ghost use Rattle.req_blob.specs.Spelling.{IsSpelling};
-ghost use Rattle.req_blob.specs.Encoding.{IsEncodable};
+ghost use Rattle.req_tree.specs.Spellable.{IsEncodable};
 ghost use Rattle.req_blob.specs.Reading.{Gives};
 ghost use Rattle.req_blob.specs.Decoding as spec;
 
 use crate::fault::OpsFault;
 use crate::field::{place, word_at};
+use crate::limits::MOST_BYTES;
 use crate::tree::req_at;
 use cs_blob::Blob;
-use req_tree::Req;
+use req_tree::{MOST_DEPTH, Req};
 use std::alloc::Global;
 
 /// The magic of a requirement blob.
 pub(crate) const MAGIC: u32 = 0xfade_0c00;
-
-/// The most bytes that a blob may have.
-pub(crate) const MOST_BYTES: usize = 1_048_576;
-
-/// How deep an expression may be.
-const MOST_DEPTH: u32 = 256;
 
 /// The requirement that the bytes spell, all of the bytes. The checks go from the front: the blob's
 /// header and size, its kind and its expression, and last that nothing is left.

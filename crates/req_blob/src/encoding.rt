@@ -6,11 +6,14 @@ ghost use Rattle.cs_blob.specs.Numbers.{word};
 ghost use Rattle.req_blob.specs.Words.{signed_word, datum, unpadded, match_text};
 ghost use Rattle.req_tree.specs.Oid.{IsOidBytes};
 ghost use Rattle.req_blob.specs.Spelling.{IsPlain, IsSlot, IsHash, plain, plain_blob, requirement};
-ghost use Rattle.req_blob.specs.Encoding.{IsEncodable, HasFields, encoded};
+ghost use Rattle.req_tree.specs.Spellable.{IsEncodable};
+ghost use Rattle.req_blob.specs.Encoding.{HasFields, encoded};
+ghost use Rattle.req_blob.specs.declared.limits.TheConstants.{MOST_BYTES};
 ghost use Rattle.req_blob.specs.Reading.{Gives};
 
-use crate::decoding::{MAGIC, MOST_BYTES};
+use crate::decoding::MAGIC;
 use crate::fault::OpsFault;
+use crate::limits::MOST_BYTES;
 use crate::size::plain_size;
 use crate::writing::{put_datum, put_hash, put_match, put_signed, put_unpadded, put_word};
 use req_tree::{Bytes, Hash20, Match, Oid, Req};
@@ -23,7 +26,7 @@ const USUAL_BYTES: usize = 512;
 pub fn encode(alloc: Global, req: &Req) -> Result<Bytes, OpsFault>
     requires { IsEncodable (tree_of req.now) }
     ensures plain { IfOk result (λ bytes. IsPlain (tree_of req.now) bytes) }
-    ensures long { IsErrOf result OpsFault.TooLong ↔ (1048576 < length (plain_blob (tree_of req.now))) }
+    ensures long { IsErrOf result OpsFault.TooLong ↔ (MOST_BYTES < length (plain_blob (tree_of req.now))) }
     ensures exact { Gives (λ bytes. bytes) result (encoded (tree_of req.now)) }
 {
     match expression(alloc, req) {
@@ -45,7 +48,7 @@ fn expression(alloc: Global, req: &Req) -> Result<Bytes, AllocError>
 /// The blob of an expression, unless it has too many bytes.
 fn blob(alloc: Global, expression: &Bytes) -> Result<Bytes, OpsFault>
     ensures blob { IfOk result (λ bytes. bytes ≡ requirement expression.now) }
-    ensures long { IsErrOf result OpsFault.TooLong ↔ (1048576 < 12 + length expression.now) }
+    ensures long { IsErrOf result OpsFault.TooLong ↔ (MOST_BYTES < 12 + length expression.now) }
     ensures fault { IfErr result (λ fault. (fault ≡ OpsFault.OutOfMemory) ⊎ (fault ≡ OpsFault.TooLong)) }
 {
     let size = 12 + expression.as_slice().len();
@@ -72,7 +75,7 @@ fn with_header(alloc: Global, size: u32, expression: &[u8]) -> Result<Bytes, All
 
 /// The refusal where memory was wanting: a requirement that is too long is that still.
 fn wanting(req: &Req) -> OpsFault
-    ensures long { (result ≡ OpsFault.TooLong) ↔ (1048576 < length (plain_blob (tree_of req.now))) }
+    ensures long { (result ≡ OpsFault.TooLong) ↔ (MOST_BYTES < length (plain_blob (tree_of req.now))) }
     ensures fault { (result ≡ OpsFault.OutOfMemory) ⊎ (result ≡ OpsFault.TooLong) }
 {
     if 12 + plain_size(req) > MOST_BYTES {

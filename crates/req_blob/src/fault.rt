@@ -2,6 +2,7 @@
 
 ghost use Rattle.std.specs.Prelude.{◌≡◌, ◌+◌, ◌≤◌, ◌++◌, codes, length, decimal};
 ghost use Rattle.line_text.specs.LineText.{line_bytes};
+ghost use Rattle.line_text.specs.declared.limits.TheConstants.{FRONT_LIMIT, LINE_ROOM};
 ghost use Rattle.req_blob.specs.FaultText.{op_text};
 
 use cs_blob::BlobFault;
@@ -43,11 +44,12 @@ pub enum OpsFault {
 impl OpsFault {
     ghost use Rattle.std.specs.Prelude.{◌≡◌, ◌+◌, ◌≤◌, ◌++◌, length};
     ghost use Rattle.line_text.specs.LineText.{line_bytes};
+    ghost use Rattle.line_text.specs.declared.limits.TheConstants.{FRONT_LIMIT};
     ghost use Rattle.req_blob.specs.FaultText.{ops_fault_text};
 
     /// Appends the refusal's number, its name and its fields; nothing for want of memory.
     pub fn line_into(&self, out: &mut LineText)
-        requires { length (line_bytes out.old) ≤ 500 }
+        requires { length (line_bytes out.old) ≤ FRONT_LIMIT + 100 }
         ensures text { line_bytes out.new ≡ line_bytes out.old ++ ops_fault_text self.now }
         ensures length { length (line_bytes out.new) ≤ length (line_bytes out.old) + 100 }
     {
@@ -80,18 +82,17 @@ impl OpsFault {
 }
 
 fn push_field(out: &mut LineText, name: &[u8], number: u32)
-    requires { length (line_bytes out.old) + length name.now ≤ 650 }
+    requires { length (line_bytes out.old) + (length name.now + 20) ≤ LINE_ROOM }
     ensures text { line_bytes out.new ≡ line_bytes out.old ++ (name.now ++ decimal number) }
     ensures length { length (line_bytes out.new) ≤ length (line_bytes out.old) + (length name.now + 20) }
 {
-    out.push_all(name);
-    out.push_number(u64::from(number));
+    out.push_field(name, u64::from(number));
 }
 
 /// Appends an opcode's word in hexadecimal.
 #[tactic(auto, unfolding(cs_blob::specs::Numbers::word))]
 fn push_op(out: &mut LineText, op: u32)
-    requires { length (line_bytes out.old) ≤ 600 }
+    requires { length (line_bytes out.old) ≤ FRONT_LIMIT + 200 }
     ensures text { line_bytes out.new ≡ line_bytes out.old ++ (codes " op=" ++ op_text op) }
     ensures length { length (line_bytes out.new) ≤ length (line_bytes out.old) + 14 }
 {

@@ -5,10 +5,9 @@ ghost use Rattle.std.specs.List.{list_all};
 ghost use Rattle.req_blob.specs.Reading.{Gives};
 ghost use Rattle.req_blob.specs.Reading as spec;
 ghost use Rattle.req_blob.specs.Words as words;
-ghost use Rattle.req_blob.specs.Spelling as spelling;
 
 use crate::fault::OpsFault;
-use req_tree::{Bytes, Hash20, Match, Oid, OidBytesFault, oid_from_bytes};
+use req_tree::{Bytes, Hash20, Match, Oid, OidBytesFault, is_reserved, oid_from_bytes};
 use std::alloc::Global;
 
 /// Where the rest begins in a blob of this size.
@@ -147,13 +146,6 @@ pub(crate) fn key_at(alloc: Global, size: u32, bytes: &[u8]) -> Result<(Bytes, &
     }
     let text = Bytes::copy_of(alloc, text)?;
     Ok((text, rest))
-}
-
-/// Whether a key begins as the text of another opcode does.
-pub(crate) fn is_reserved(key: &[u8]) -> bool
-    ensures { result ≡ spelling.is_reserved key.now }
-{
-    key.starts_with(b"field.") || key.starts_with(b"policy.") || key.starts_with(b"timestamp.")
 }
 
 #[tactic(auto, unfolding(crate::specs::Reading::oid_at))]

@@ -2,12 +2,12 @@
 #![tactic(auto)]
 
 mod decoding;
-mod encodable;
 mod encoding;
 mod fault;
 mod field;
 pub mod laws;
 mod leaf;
+mod limits;
 mod opcode;
 mod round_trip;
 mod size;
@@ -15,7 +15,8 @@ mod tree;
 mod writing;
 
 pub use decoding::decode;
-pub use encodable::is_encodable;
 pub use encoding::encode;
 pub use fault::OpsFault;
+pub use limits::MOST_BYTES;
+pub use req_tree::is_encodable;
 pub use round_trip::{reread, respell};

@@ -4,7 +4,8 @@ ghost use Rattle.std.specs.Prelude.{◌≡◌, ◌≢◌, ◌<◌, ◌↔◌, �
 ghost use Rattle.req_tree.specs.Tree.{Tree, tree_of};
 ghost use Rattle.req_blob.specs.Spelling.{IsSpelling, IsPlain, plain_blob};
 ghost use Rattle.req_blob.specs.Decoding.{decoded};
-ghost use Rattle.req_blob.specs.Encoding.{IsEncodable};
+ghost use Rattle.req_tree.specs.Spellable.{IsEncodable};
+ghost use Rattle.req_blob.specs.declared.limits.TheConstants.{MOST_BYTES};
 
 use crate::decoding::decode;
 use crate::encoding::encode;
@@ -16,7 +17,7 @@ use std::alloc::Global;
 pub fn reread(alloc: Global, req: &Req) -> Result<Req, OpsFault>
     requires { IsEncodable (tree_of req.now) }
     ensures same { IfOk result (λ again. tree_of again ≡ tree_of req.now) }
-    ensures fault { IfErr result (λ fault. (fault ≡ OpsFault.OutOfMemory) ⊎ ((fault ≡ OpsFault.TooLong) × (1048576 < length (plain_blob (tree_of req.now))))) }
+    ensures fault { IfErr result (λ fault. (fault ≡ OpsFault.OutOfMemory) ⊎ ((fault ≡ OpsFault.TooLong) × (MOST_BYTES < length (plain_blob (tree_of req.now))))) }
 {
     match encode(alloc, req) {
         Ok(bytes) => decode(alloc, bytes.as_slice()),

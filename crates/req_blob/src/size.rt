@@ -1,20 +1,22 @@
 //! How many bytes an expression has, counted up to one more than a blob may have.
 
-ghost use Rattle.std.specs.Prelude.{◌≡◌, length, min};
+ghost use Rattle.std.specs.Prelude.{◌≡◌, ◌+◌, length, min};
+ghost use Rattle.req_blob.specs.declared.limits.TheConstants.{MOST_BYTES};
 ghost use Rattle.req_tree.specs.Tree.{tree_of};
 ghost use Rattle.req_blob.specs.Words.{datum, unpadded, match_text};
 ghost use Rattle.req_blob.specs.Spelling.{plain};
 
 use crate::field::padding;
+use crate::limits::MOST_BYTES;
 use req_tree::{Bytes, Match, Oid, Req};
 
 /// One more byte than a blob may have.
-const CAP: usize = 1_048_577;
+const CAP: usize = MOST_BYTES + 1;
 
 /// The bytes of the plain spelling, or the cap.
 #[tactic(auto, using(crate::proofs::Lengths::lengths))]
 pub(crate) fn plain_size(req: &Req) -> usize
-    ensures { result ≡ min (length (plain (tree_of req.now))) 1048577 }
+    ensures { result ≡ min (length (plain (tree_of req.now))) (MOST_BYTES + 1) }
 {
     match req {
         Req::Never => 4,
@@ -51,7 +53,7 @@ pub(crate) fn plain_size(req: &Req) -> usize
 
 #[tactic(auto, using(crate::proofs::Lengths::lengths))]
 fn match_size(test: &Match) -> usize
-    ensures { result ≡ min (length (match_text test.now)) 1048577 }
+    ensures { result ≡ min (length (match_text test.now)) (MOST_BYTES + 1) }
 {
     match test {
         Match::Exists => 4,
@@ -68,20 +70,20 @@ fn match_size(test: &Match) -> usize
 }
 
 fn text_size(text: &Bytes) -> usize
-    ensures { result ≡ min (length (datum text.now)) 1048577 }
+    ensures { result ≡ min (length (datum text.now)) (MOST_BYTES + 1) }
 {
     datum_size(text.as_slice())
 }
 
 fn oid_size(oid: &Oid) -> usize
-    ensures { result ≡ min (length (datum oid.now)) 1048577 }
+    ensures { result ≡ min (length (datum oid.now)) (MOST_BYTES + 1) }
 {
     datum_size(oid.as_slice())
 }
 
 #[tactic(auto, using(crate::proofs::Lengths::lengths))]
 fn datum_size(bytes: &[u8]) -> usize
-    ensures { result ≡ min (length (datum bytes.now)) 1048577 }
+    ensures { result ≡ min (length (datum bytes.now)) (MOST_BYTES + 1) }
 {
     if bytes.len() >= CAP {
         return CAP;
@@ -91,7 +93,7 @@ fn datum_size(bytes: &[u8]) -> usize
 
 #[tactic(auto, using(crate::proofs::Lengths::lengths))]
 fn unpadded_size(bytes: &Bytes) -> usize
-    ensures { result ≡ min (length (unpadded bytes.now)) 1048577 }
+    ensures { result ≡ min (length (unpadded bytes.now)) (MOST_BYTES + 1) }
 {
     let size = bytes.as_slice().len();
     if size >= CAP {
@@ -101,7 +103,7 @@ fn unpadded_size(bytes: &Bytes) -> usize
 }
 
 fn capped(size: usize) -> usize
-    ensures { result ≡ min size 1048577 }
+    ensures { result ≡ min size (MOST_BYTES + 1) }
 {
     size.min(CAP)
 }

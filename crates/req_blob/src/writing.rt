@@ -2,12 +2,11 @@
 
 ghost use Rattle.std.specs.Prelude.{◌≡◌, ◌≤◌, ◌++◌, OnOk, length};
 ghost use Rattle.cs_blob.specs.Numbers.{word};
-ghost use Rattle.req_tree.specs.Oid.{IsOidBytes};
 ghost use Rattle.req_blob.specs.Spelling.{IsSlot, IsHash};
 ghost use Rattle.req_blob.specs.Words.{signed_word, zeros, datum, unpadded, match_text};
 
 use crate::field::padding;
-use req_tree::{Bytes, Hash20, Match, Oid};
+use req_tree::{Bytes, Hash20, Match};
 use std::alloc::AllocError;
 
 pub(crate) fn put_match(out: &mut Vec<u8>, test: &Match) -> Result<(), AllocError>
@@ -65,13 +64,6 @@ fn put_twenty(out: &mut Vec<u8>, bytes: &[u8]) -> Result<(), AllocError>
     put_word(out, 20)?;
     out.extend_from_slice(bytes)?;
     Ok(())
-}
-
-pub(crate) fn put_oid(out: &mut Vec<u8>, oid: &Oid) -> Result<(), AllocError>
-    ensures datum { OnOk result (out.new.items ≡ out.old.items ++ datum oid.now) }
-    ensures oid { IsOidBytes oid.now }
-{
-    put_datum(out, oid.as_slice())
 }
 
 /// A length, of which the low 32 bits are written, that many bytes, and zeros up to a multiple of four.

@@ -1,7 +1,6 @@
 pub mod SetParts
 pub mod SetLaws
 pub mod SetWritten
-pub mod SetTests
 pub mod SetSpelled
 pub mod Spans
 pub mod SetSizes

@@ -4,6 +4,7 @@ use Rattle.std.specs.Prelude.{IfOk, IfErr, MatchResult}
 use Rattle.req_tree.specs.TreeSet.{TreeSet}
 use Rattle.req_ops.specs.declared.fault.SetFault.{SetFault}
 use Rattle.req_ops.specs.declared.fault.SetFault.TheVariants.{TooLong, OutOfMemory}
+use Rattle.req_blob.specs.declared.limits.TheConstants.{MOST_BYTES}
 use Rattle.req_ops.specs.Sets.{IsSetSpelling, SetFails}
 use Rattle.req_ops.specs.SetEncoding.{IsPlainSet, plain_set}
 use Rattle.req_ops.proofs.SetLaws.{one_set}
@@ -14,7 +15,7 @@ same_again (Ok read) s h = h
 same_again (Err e) s h = tt
 
 pub fault_again : (r : Result TreeSet SetFault) (s : TreeSet) → MatchResult r (λ read. read ≡ s) (λ e. e ≡ OutOfMemory)
-    → IfErr r (λ e. (e ≡ OutOfMemory) ⊎ ((e ≡ TooLong) × (1048576 < length (plain_set s))))
+    → IfErr r (λ e. (e ≡ OutOfMemory) ⊎ ((e ≡ TooLong) × (MOST_BYTES < length (plain_set s))))
 fault_again (Ok read) s h = tt
 fault_again (Err e) s h = inl h
 
@@ -27,10 +28,10 @@ respelled_same (Ok again) s bytes spelled written = (
 respelled_same (Err e) s bytes spelled written = tt
 
 -- nothing that is read is too long to be written
-pub respelled_fault : (r : Result (List ℕ) SetFault) (s : TreeSet) (bytes : List ℕ) → IsSetSpelling s bytes → IfErr r (λ e. (e ≡ OutOfMemory) ⊎ ((e ≡ TooLong) × (1048576 < length (plain_set s)))) → IfErr r (λ e. SetFails bytes e)
+pub respelled_fault : (r : Result (List ℕ) SetFault) (s : TreeSet) (bytes : List ℕ) → IsSetSpelling s bytes → IfErr r (λ e. (e ≡ OutOfMemory) ⊎ ((e ≡ TooLong) × (MOST_BYTES < length (plain_set s)))) → IfErr r (λ e. SetFails bytes e)
 respelled_fault (Ok again) s bytes spelled h = tt
 respelled_fault (Err e) s bytes spelled (inl memory) = subst (SetFails bytes) (sym memory) tt
 respelled_fault (Err e) s bytes spelled (inr long) =
-    let short : length bytes ≤ 1048576 = spelled.short in
-    let more : 1048576 < length (plain_set s) = long.1 in
+    let short : length bytes ≤ MOST_BYTES = spelled.short in
+    let more : MOST_BYTES < length (plain_set s) = long.1 in
     absurd (omega (arith, short, more, plain_is_short s bytes spelled))

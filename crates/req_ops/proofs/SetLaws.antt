@@ -17,7 +17,9 @@ use Rattle.req_ops.specs.declared.fault.SetFault.{SetFault}
 use Rattle.req_ops.specs.declared.fault.SetFault.TheVariants.{Blob, TooLong, Trailing, BadSetKind, Part, OutOfMemory}
 use Rattle.req_blob.specs.Spelling.{IsSpelling}
 use Rattle.req_blob.specs.Decoding.{decoded}
-use Rattle.req_ops.specs.Sets.{set_magic, IsSetSpelling, SetFails, StopsAt, HasRead, PartFails, part_fault}
+use Rattle.req_ops.specs.Sets.{set_magic, IsSetSpelling, SetFails, StopsAt, PartFails, part_fault}
+use Rattle.req_ops.specs.Steps.{HasRead}
+use Rattle.req_blob.specs.declared.limits.TheConstants.{MOST_BYTES}
 use Rattle.req_blob.proofs.Fields.{ok_is, IsBytes-drop, IsBytes-take}
 use Rattle.req_blob.proofs.Blobs.{decoded_spells, spells_decoded}
 use Rattle.req_ops.proofs.SetParts.{Tells, same_entry}
@@ -25,7 +27,7 @@ use Rattle.req_ops.proofs.SetParts.{Tells, same_entry}
 part_bytes : (whole : List ℕ) (k : ℕ) → IsBytes whole → IsBytes (part_at whole k)
 part_bytes whole k are = IsBytes-take (length_at whole k) _ (IsBytes-drop (offset_at whole k) whole are)
 
-pub read_spells : (whole : List ℕ) (set : TreeSet) → IsBytes whole → IsSuperBlob set_magic whole → length whole ≤ 1048576 → HasRead whole (count_of whole) set → IsSetSpelling set whole
+pub read_spells : (whole : List ℕ) (set : TreeSet) → IsBytes whole → IsSuperBlob set_magic whole → length whole ≤ MOST_BYTES → HasRead whole (count_of whole) set → IsSetSpelling set whole
 read_spells whole set are blob short has = record {
   blob = blob;
   short = short;
@@ -82,8 +84,8 @@ pub no_set_fault : (bytes : List ℕ) (set : TreeSet) (fault : SetFault) → IsS
 no_set_fault bytes set (Blob why) is h = absurd (no_super set_magic bytes bytes [] why h is.blob (sym (append-nil bytes)))
 no_set_fault bytes set TooLong is h =
     let same = same_blob set_magic bytes h.0 h.1 bytes [] h.2.blob h.3 is.blob.blob (sym (append-nil bytes)) in
-    let short : length bytes ≤ 1048576 = is.short in
-    let long : 1048576 < length h.0 = h.4 in
+    let short : length bytes ≤ MOST_BYTES = is.short in
+    let long : MOST_BYTES < length h.0 = h.4 in
     absurd (omega (arith, ap length same.0, short, long))
 no_set_fault bytes set (Trailing at) is h =
     let same = same_blob set_magic bytes h.0 h.1 bytes [] h.2.blob h.3 is.blob.blob (sym (append-nil bytes)) in
@@ -101,7 +103,7 @@ whole_alone bytes whole rest parts none = sym (parts ∙ ap (λ (r : List ℕ). 
 
 -- what reading the whole tells
 abbrev pub WholeRead : List ℕ → List ℕ → Result TreeSet SetFault → Type 0
-WholeRead whole rest r = MatchResult r (λ set. (rest ≡ []) × (length whole ≤ 1048576) × HasRead whole (count_of whole) set) (λ fault. SetFails (whole ++ rest) fault)
+WholeRead whole rest r = MatchResult r (λ set. (rest ≡ []) × (length whole ≤ MOST_BYTES) × HasRead whole (count_of whole) set) (λ fault. SetFails (whole ++ rest) fault)
 
 pub set_found : (bytes whole rest : List ℕ) (r : Result TreeSet SetFault) → IsBytes bytes → IsSuperBlob set_magic whole → bytes ≡ whole ++ rest → WholeRead whole rest r → IfOk r (λ set. IsSetSpelling set bytes)
 set_found bytes whole rest (Err fault) are blob parts h = tt

@@ -7,7 +7,7 @@ use Rattle.req_tree.specs.Tree.{Tree}
 use Rattle.req_tree.specs.TreeSet.{TreeSet, IsSetKind, no_parts, part_of, with_part}
 use Rattle.cs_blob.specs.SuperBlobs.{IsSuperBlob, IsPartOf, count_of, kind_at, part_at}
 use Rattle.req_blob.specs.Decoding.{decoded}
-use Rattle.req_ops.specs.Sets.{HasRead}
+use Rattle.req_ops.specs.Steps.{HasRead}
 
 none_at : (kind : ℕ) → IsSetKind kind → part_of kind no_parts ≡ None
 none_at zero is = absurd (omega (arith, is.0))

@@ -13,12 +13,20 @@ use Rattle.cs_blob.specs.Writing.{Draft, Holds, written}
 use Rattle.req_blob.specs.declared.fault.OpsFault.{OpsFault}
 use Rattle.req_blob.specs.declared.fault.OpsFault.TheVariants as fault
 use Rattle.req_blob.specs.Spelling.{IsSpelling, plain_blob}
-use Rattle.req_blob.specs.Encoding.{IsEncodable}
+use Rattle.req_tree.specs.Spellable.{IsEncodable}
+use Rattle.req_blob.specs.declared.limits.TheConstants.{MOST_BYTES}
 use Rattle.req_blob.proofs.Written.{can_encode}
 use Rattle.req_ops.specs.Sets.{set_magic, IsSetSpelling}
-use Rattle.req_ops.specs.SetEncoding.{part_under, parts_below, plain_set, IsPlainSet, IsDraftTo, IsEncodableSet}
-use Rattle.req_ops.proofs.SetTests.{none_above}
+use Rattle.req_ops.specs.SetEncoding.{part_under, parts_below, plain_set, IsPlainSet}
+use Rattle.req_ops.specs.Steps.{IsDraftTo}
+use Rattle.req_tree.specs.TreeSet.{IsEncodableSet}
 use Rattle.req_ops.proofs.SetWritten.{whole_written}
+
+not_at : (k i : ℕ) → 6 ≤ k → i < 6 → (k == i) ≡ false
+not_at k i h low = grind (arith, nat_tests)
+
+none_above : (k : ℕ) (s : TreeSet) → 6 ≤ k → part_of k s ≡ None
+none_above k s h = rw (not_at k 1 h (omega arith), not_at k 2 h (omega arith), not_at k 3 h (omega arith), not_at k 4 h (omega arith), not_at k 5 h (omega arith)) refl
 
 -- a part is that of a tree of the set, plain, under its type
 abbrev IsOwn : TreeSet → ℕ × List ℕ → Type 0
@@ -115,7 +123,7 @@ part_written s bytes kind tree holds low some =
     let size : length (parts_below 6 s) ≡ length stands.before + length ((kind, plain_blob tree) ∷ stands.after) = ap length stands.split ∙ length-append stands.before ((kind, plain_blob tree) ∷ stands.after) in
     (length stands.before, omega (arith, size, holds.counted), each.0, sym each.1)
 
-pub written_spells : (s : TreeSet) (bytes : List ℕ) → IsSuperBlob set_magic bytes → length bytes ≤ 1048576 → Holds (parts_below 6 s) bytes
+pub written_spells : (s : TreeSet) (bytes : List ℕ) → IsSuperBlob set_magic bytes → length bytes ≤ MOST_BYTES → Holds (parts_below 6 s) bytes
     → ((k : ℕ) → k < 6 → IfSome (part_of k s) (λ tree. IsSpelling tree (plain_blob tree))) → IsSetSpelling s bytes
 written_spells s bytes blob short holds spelled = record {
   blob = blob;
@@ -132,7 +140,7 @@ written_spells s bytes blob short holds spelled = record {
         absurd (not_some own.0 (sym none ∙ some))
     by_part kind is (Some tree) some h = (plain_blob tree, part_written s bytes kind tree holds (omega (arith, is.1)) some, h)
 
-pub plain_spells_set : (s : TreeSet) (draft : Draft) (bytes : List ℕ) → IsDraftTo s 6 draft → bytes ≡ written draft → length bytes ≤ 1048576 → IsSuperBlob draft.magic bytes → Holds draft.parts bytes
+pub plain_spells_set : (s : TreeSet) (draft : Draft) (bytes : List ℕ) → IsDraftTo s 6 draft → bytes ≡ written draft → length bytes ≤ MOST_BYTES → IsSuperBlob draft.magic bytes → Holds draft.parts bytes
     → IsPlainSet s bytes
 plain_spells_set s draft bytes is written_is short blob holds = record {
   spelled = written_spells s bytes (subst (λ (m : ℕ). IsSuperBlob m bytes) is.magic blob) short (subst (λ (ps : List (ℕ × List ℕ)). Holds ps bytes) is.parts holds) is.spelled;
@@ -142,17 +150,17 @@ plain_spells_set s draft bytes is written_is short blob holds = record {
 -- what the last step tells
 abbrev pub Finished : Draft → Result (List ℕ) OpsFault → Type 0
 Finished draft r =
-    MatchResult r (λ b. (b ≡ written draft) × (length b ≤ 1048576) × IsSuperBlob draft.magic b × Holds draft.parts b)
-    (λ e. (e ≡ fault.OutOfMemory) ⊎ ((e ≡ fault.TooLong) × (1048576 < length (written draft))))
+    MatchResult r (λ b. (b ≡ written draft) × (length b ≤ MOST_BYTES) × IsSuperBlob draft.magic b × Holds draft.parts b)
+    (λ e. (e ≡ fault.OutOfMemory) ⊎ ((e ≡ fault.TooLong) × (MOST_BYTES < length (written draft))))
 
 pub finished_plain : (s : TreeSet) (draft : Draft) (r : Result (List ℕ) OpsFault) → IsDraftTo s 6 draft → Finished draft r → IfOk r (λ b. IsPlainSet s b)
 finished_plain s draft (Ok b) is h = plain_spells_set s draft b is h.0 h.1 h.2 h.3
 finished_plain s draft (Err e) is h = tt
 
-pub finished_fault : (s : TreeSet) (draft : Draft) (r : Result (List ℕ) OpsFault) → IsDraftTo s 6 draft → Finished draft r → IfErr r (λ e. (e ≡ fault.OutOfMemory) ⊎ ((e ≡ fault.TooLong) × (1048576 < length (plain_set s))))
+pub finished_fault : (s : TreeSet) (draft : Draft) (r : Result (List ℕ) OpsFault) → IsDraftTo s 6 draft → Finished draft r → IfErr r (λ e. (e ≡ fault.OutOfMemory) ⊎ ((e ≡ fault.TooLong) × (MOST_BYTES < length (plain_set s))))
 finished_fault s draft (Ok b) is h = tt
 finished_fault s draft (Err e) is (inl h) = inl h
-finished_fault s draft (Err e) is (inr h) = inr (h.0, subst (λ (b : List ℕ). 1048576 < length b) (whole_written s draft is) h.1)
+finished_fault s draft (Err e) is (inr h) = inr (h.0, subst (λ (b : List ℕ). MOST_BYTES < length b) (whole_written s draft is) h.1)
 
 -- what is spelled can be written
 pub spelled_can_encode : (s : TreeSet) (bytes : List ℕ) → IsSetSpelling s bytes → IsEncodableSet s

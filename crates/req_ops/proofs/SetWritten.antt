@@ -13,9 +13,13 @@ use Rattle.cs_blob.proofs.WriterLemmas.{body-append, total-more, fits_when, leng
 use Rattle.req_blob.specs.declared.fault.OpsFault.{OpsFault}
 use Rattle.req_blob.specs.declared.fault.OpsFault.TheVariants as fault
 use Rattle.req_blob.specs.Spelling.{IsSpelling, IsPlain, plain, plain_blob}
-use Rattle.req_blob.specs.Encoding.{IsEncodable, encoded}
+use Rattle.req_tree.specs.Spellable.{IsEncodable}
+use Rattle.req_blob.specs.declared.limits.TheConstants.{MOST_BYTES}
+use Rattle.req_blob.specs.Encoding.{encoded}
 use Rattle.req_ops.specs.Sets.{set_magic}
-use Rattle.req_ops.specs.SetEncoding.{part_under, parts_below, plain_set, IsEncodableSet, IsDraftTo, HasLongPart}
+use Rattle.req_ops.specs.SetEncoding.{part_under, parts_below, plain_set}
+use Rattle.req_ops.specs.Steps.{IsDraftTo, HasLongPart}
+use Rattle.req_tree.specs.TreeSet.{IsEncodableSet}
 use Rattle.req_blob.proofs.Blobs.{requirement_blob}
 use Rattle.req_blob.proofs.Written.{fault_written}
 
@@ -70,7 +74,7 @@ below_some kind s tree some = rw add-one (ap (λ (o : Option Tree). parts_below 
 
 pub draft_same : (s : TreeSet) (kind : ℕ) (draft : Draft) → IsDraftTo s kind draft → part_of kind s ≡ None → IsDraftTo s (kind + 1) draft
 draft_same s kind draft is none =
-    let small : total_of draft.parts ≤ 12 + kind * 1048584 = is.small in
+    let small : total_of draft.parts ≤ 12 + kind * (MOST_BYTES + 8) = is.small in
     record {
       magic = is.magic;
       parts = is.parts ∙ sym (below_none kind s none);
@@ -84,8 +88,8 @@ draft_more s kind old new tree part is some written more = subst (IsDraftTo s (k
   where
     grown : IsDraftTo s (kind + 1) (record old { parts = old.parts ++ (kind, part) ∷ [] })
     grown =
-        let small : total_of old.parts ≤ 12 + kind * 1048584 = is.small in
-        let short : length part ≤ 1048576 = written.spelled.short in
+        let small : total_of old.parts ≤ 12 + kind * (MOST_BYTES + 8) = is.small in
+        let short : length part ≤ MOST_BYTES = written.spelled.short in
         record {
           magic = is.magic;
           parts = ap (λ (ps : List (ℕ × List ℕ)). ps ++ (kind, part) ∷ []) is.parts ∙ ap (λ (b : List ℕ). parts_below kind s ++ (kind, b) ∷ []) written.plain_is ∙ sym (below_some kind s tree some);
@@ -95,14 +99,14 @@ draft_more s kind old new tree part is some written more = subst (IsDraftTo s (k
 
 pub part_sized : (tree : Tree) (part : List ℕ) → IsPlain tree part → IsSized part
 part_sized tree part is =
-    let short : length part ≤ 1048576 = is.spelled.short in
+    let short : length part ≤ MOST_BYTES = is.spelled.short in
     let blob = requirement_blob (plain tree) (subst (λ (b : List ℕ). length b < 2 ^ 32) is.plain_is (omega (arith, short))) in
     subst IsSized (sym is.plain_is) (record { header = blob.header; sized = blob.sized })
 
 pub part_fits : (s : TreeSet) (kind : ℕ) (draft : Draft) (tree : Tree) (part : List ℕ) → IsDraftTo s kind draft → kind < 6 → IsPlain tree part → add_fault draft.parts kind part ≡ None
 part_fits s kind draft tree part is low written =
-    let small : total_of draft.parts ≤ 12 + kind * 1048584 = is.small in
-    let short : length part ≤ 1048576 = written.spelled.short in
+    let small : total_of draft.parts ≤ 12 + kind * (MOST_BYTES + 8) = is.small in
+    let short : length part ≤ MOST_BYTES = written.spelled.short in
     let fresh : has_kind draft.parts kind ≡ false = ap (λ (ps : List (ℕ × List ℕ)). has_kind ps kind) is.parts ∙ below_kind kind kind s (omega arith) in
     let count : length draft.parts ≤ kind = subst (λ (ps : List (ℕ × List ℕ)). length ps ≤ kind) (sym is.parts) (below_count kind s) in
     fits_when draft.parts kind part fresh (omega (arith, count, low)) (omega (arith, small, short, low))
@@ -137,11 +141,11 @@ part_inside (suc k) kind s tree lt some = by_test (kind == k) refl (λ less. par
     by_test true e next = let same : kind ≡ k = grind (arith, nat_tests, e) in omega (arith, split, here same)
     by_test false e next = let less : kind < k = grind (arith, nat_tests, e, lt) in omega (arith, split, next less)
 
-pub set_long : (s : TreeSet) (kind : ℕ) → kind < 6 → HasLongPart s kind → 1048576 < length (plain_set s)
+pub set_long : (s : TreeSet) (kind : ℕ) → kind < 6 → HasLongPart s kind → MOST_BYTES < length (plain_set s)
 unfolding plain_set
 set_long s kind low has =
     let inside : length (plain_blob has.tree) ≤ length (body_bytes (parts_below 6 s)) = part_inside 6 kind s has.tree low has.part in
-    let long : 1048576 < length (plain_blob has.tree) = has.long in
+    let long : MOST_BYTES < length (plain_blob has.tree) = has.long in
     let size : length (written (record { magic = set_magic; parts = parts_below 6 s })) ≡ total_of (parts_below 6 s) = length-written (record { magic = set_magic; parts = parts_below 6 s }) in
     omega (arith, inside, long, size)
 
@@ -153,7 +157,7 @@ unfolding plain_set
 whole_written s draft is = ap (λ (m : ℕ). written (draft_of m draft.parts)) is.magic ∙ ap (λ (ps : List (ℕ × List ℕ)). written (draft_of set_magic ps)) is.parts
 
 pub long_fault : (s : TreeSet) (e : OpsFault) → ((e ≡ fault.OutOfMemory) ⊎ ((e ≡ fault.TooLong) × ((kind : ℕ) × (kind < 6) × HasLongPart s kind)))
-    → (e ≡ fault.OutOfMemory) ⊎ ((e ≡ fault.TooLong) × (1048576 < length (plain_set s)))
+    → (e ≡ fault.OutOfMemory) ⊎ ((e ≡ fault.TooLong) × (MOST_BYTES < length (plain_set s)))
 long_fault s e (inl is) = inl is
 long_fault s e (inr h) = inr (h.0, set_long s h.1.0 h.1.1 h.1.2)
 

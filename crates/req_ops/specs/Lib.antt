@@ -1,5 +1,6 @@
 pub mod Sets
 pub mod SetEncoding
+pub mod Steps
 pub mod FaultText
 pub use Rattle.req_blob.specs.Words
 pub use Rattle.req_blob.specs.Opcodes

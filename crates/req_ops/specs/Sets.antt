@@ -9,6 +9,7 @@ use Rattle.req_blob.specs.declared.fault.OpsFault.{OpsFault}
 use Rattle.req_blob.specs.declared.fault.OpsFault.TheVariants as memory
 use Rattle.req_ops.specs.declared.fault.SetFault.{SetFault}
 use Rattle.req_ops.specs.declared.fault.SetFault.TheVariants.{Blob, TooLong, Trailing, BadSetKind, Part, OutOfMemory}
+use Rattle.req_blob.specs.declared.limits.TheConstants.{MOST_BYTES}
 use Rattle.req_blob.specs.Spelling.{IsSpelling}
 use Rattle.req_blob.specs.Decoding.{decoded}
 
@@ -23,7 +24,7 @@ HasPart bytes set kind = MatchOption (part_of kind set) ((part : List ℕ) → I
 -- the bytes are one set of requirements
 pub record IsSetSpelling (set : TreeSet) (bytes : List ℕ) : Type 0 where
   pub blob : IsSuperBlob set_magic bytes
-  pub short : length bytes ≤ 1048576
+  pub short : length bytes ≤ MOST_BYTES
   pub kinds : (index : ℕ) → index < count_of bytes → IsSetKind (kind_at bytes index)
   pub parts : (kind : ℕ) → IsSetKind kind → HasPart bytes set kind
 
@@ -55,14 +56,8 @@ pub record StopsAt (whole : List ℕ) (fault : SetFault) : Type 0 where
 -- the first that is wrong with bytes that should be a set
 abbrev pub SetFails : List ℕ → SetFault → Type 0
 SetFails bytes (Blob why) = SuperFails set_magic bytes why
-SetFails bytes TooLong = (whole rest : List ℕ) × IsSuperBlob set_magic whole × (bytes ≡ whole ++ rest) × (1048576 < length whole)
-SetFails bytes (Trailing at) = (whole rest : List ℕ) × IsSuperBlob set_magic whole × (bytes ≡ whole ++ rest) × (length whole ≤ 1048576) × (rest ≢ []) × (at ≡ length whole)
-SetFails bytes (BadSetKind index) = IsSuperBlob set_magic bytes × (length bytes ≤ 1048576) × StopsAt bytes (BadSetKind index)
-SetFails bytes (Part index why) = IsSuperBlob set_magic bytes × (length bytes ≤ 1048576) × StopsAt bytes (Part index why)
+SetFails bytes TooLong = (whole rest : List ℕ) × IsSuperBlob set_magic whole × (bytes ≡ whole ++ rest) × (MOST_BYTES < length whole)
+SetFails bytes (Trailing at) = (whole rest : List ℕ) × IsSuperBlob set_magic whole × (bytes ≡ whole ++ rest) × (length whole ≤ MOST_BYTES) × (rest ≢ []) × (at ≡ length whole)
+SetFails bytes (BadSetKind index) = IsSuperBlob set_magic bytes × (length bytes ≤ MOST_BYTES) × StopsAt bytes (BadSetKind index)
+SetFails bytes (Part index why) = IsSuperBlob set_magic bytes × (length bytes ≤ MOST_BYTES) × StopsAt bytes (Part index why)
 SetFails bytes OutOfMemory = Unit {0}
-
--- the set has just the trees of the entries before one
-pub record HasRead (whole : List ℕ) (index : ℕ) (set : TreeSet) : Type 0 where
-  pub before : ReadTo whole index
-  pub parts : (kind : ℕ) → IsSetKind kind
-      → MatchOption (part_of kind set) ((k : ℕ) → k < index → kind_at whole k ≢ kind) (λ tree. (k : ℕ) × (k < index) × (kind_at whole k ≡ kind) × (decoded (part_at whole k) ≡ Ok tree))

@@ -5,21 +5,20 @@ ghost use Rattle.req_tree.specs.Tree.{tree_of};
 ghost use Rattle.req_tree.specs.TreeSet.{TreeSet, IsSetKind, no_parts};
 ghost use Rattle.cs_blob.specs.SuperBlobs.{IsSuperBlob, count_of};
 ghost use Rattle.cs_blob.specs.SuperBlobs as blobs;
+ghost use Rattle.req_blob.specs.declared.limits.TheConstants.{MOST_BYTES};
 ghost use Rattle.req_blob.specs.Decoding.{decoded};
 ghost use Rattle.req_ops.specs.Sets as spec;
-ghost use Rattle.req_ops.specs.Sets.{IsSetSpelling, SetFails, PartFails, StopsAt, HasRead, set_magic};
+ghost use Rattle.req_ops.specs.Sets.{IsSetSpelling, SetFails, PartFails, StopsAt, set_magic};
+ghost use Rattle.req_ops.specs.Steps.{HasRead};
 
 use crate::fault::SetFault;
 use cs_blob::SuperBlob;
-use req_blob::{OpsFault, decode};
+use req_blob::{MOST_BYTES, OpsFault, decode};
 use req_tree::{Req, ReqSet};
 use std::alloc::Global;
 
 /// The magic of a set of requirements.
 pub(crate) const SET_MAGIC: u32 = 0xfade_0c01;
-
-/// The most bytes that a set may have.
-pub(crate) const MOST_BYTES: usize = 1_048_576;
 
 /// The set that the bytes spell, all of the bytes. The checks go from the front: the super-blob with its
 /// index, its size, that nothing is left, and then each part in the order of the index.
@@ -36,7 +35,7 @@ pub fn decode_set(alloc: Global, bytes: &[u8]) -> Result<ReqSet, SetFault>
 
 fn decode_whole(alloc: Global, blob: &SuperBlob<'_>) -> Result<ReqSet, SetFault>
     requires { IsSuperBlob set_magic blob.now.whole }
-    ensures { MatchResult result (λ set. (blob.now.rest ≡ []) × (length blob.now.whole ≤ 1048576) × HasRead blob.now.whole (count_of blob.now.whole) set) (λ fault. SetFails (blob.now.whole ++ blob.now.rest) fault) }
+    ensures { MatchResult result (λ set. (blob.now.rest ≡ []) × (length blob.now.whole ≤ MOST_BYTES) × HasRead blob.now.whole (count_of blob.now.whole) set) (λ fault. SetFails (blob.now.whole ++ blob.now.rest) fault) }
 {
     let size = blob.whole().len();
     if size > MOST_BYTES {

@@ -5,11 +5,14 @@ ghost use Rattle.cs_blob.specs.Blobs.{IsSized};
 ghost use Rattle.cs_blob.specs.SuperBlobs.{IsSuperBlob};
 ghost use Rattle.cs_blob.specs.Writing.{Holds, add_fault, written};
 ghost use Rattle.req_ops.specs.Sets.{set_magic};
-ghost use Rattle.req_ops.specs.SetEncoding.{IsEncodableSet, IsPlainSet, IsDraftTo, HasLongPart, plain_set};
+ghost use Rattle.req_ops.specs.SetEncoding.{IsPlainSet, plain_set};
+ghost use Rattle.req_ops.specs.Steps.{IsDraftTo, HasLongPart};
+ghost use Rattle.req_tree.specs.TreeSet.{IsEncodableSet};
+ghost use Rattle.req_blob.specs.declared.limits.TheConstants.{MOST_BYTES};
 
-use crate::decoding::{MOST_BYTES, SET_MAGIC};
+use crate::decoding::SET_MAGIC;
 use cs_blob::SuperWriter;
-use req_blob::{OpsFault, encode};
+use req_blob::{MOST_BYTES, OpsFault, encode};
 use req_tree::{Bytes, ReqSet};
 use std::alloc::Global;
 
@@ -18,7 +21,7 @@ use std::alloc::Global;
 pub fn encode_set(alloc: Global, set: &ReqSet) -> Result<Bytes, OpsFault>
     requires { IsEncodableSet set.now }
     ensures plain { IfOk result (λ bytes. IsPlainSet set.now bytes) }
-    ensures fault { IfErr result (λ fault. (fault ≡ OpsFault.OutOfMemory) ⊎ ((fault ≡ OpsFault.TooLong) × (1048576 < length (plain_set set.now)))) }
+    ensures fault { IfErr result (λ fault. (fault ≡ OpsFault.OutOfMemory) ⊎ ((fault ≡ OpsFault.TooLong) × (MOST_BYTES < length (plain_set set.now)))) }
 {
     let mut writer = SuperWriter::new(alloc, SET_MAGIC);
     match add_kinds(alloc, &mut writer, set) {
@@ -28,7 +31,7 @@ pub fn encode_set(alloc: Global, set: &ReqSet) -> Result<Bytes, OpsFault>
 }
 
 fn finish(writer: SuperWriter) -> Result<Bytes, OpsFault>
-    ensures { MatchResult result (λ bytes. (bytes ≡ written writer) × (length bytes ≤ 1048576) × IsSuperBlob writer.magic bytes × Holds writer.parts bytes) (λ fault. (fault ≡ OpsFault.OutOfMemory) ⊎ ((fault ≡ OpsFault.TooLong) × (1048576 < length (written writer)))) }
+    ensures { MatchResult result (λ bytes. (bytes ≡ written writer) × (length bytes ≤ MOST_BYTES) × IsSuperBlob writer.magic bytes × Holds writer.parts bytes) (λ fault. (fault ≡ OpsFault.OutOfMemory) ⊎ ((fault ≡ OpsFault.TooLong) × (MOST_BYTES < length (written writer)))) }
 {
     match writer.finish() {
         Ok(bytes) => within(bytes),
@@ -37,7 +40,7 @@ fn finish(writer: SuperWriter) -> Result<Bytes, OpsFault>
 }
 
 fn within(bytes: Bytes) -> Result<Bytes, OpsFault>
-    ensures { MatchResult result (λ same. (same ≡ bytes) × (length bytes ≤ 1048576)) (λ fault. (fault ≡ OpsFault.TooLong) × (1048576 < length bytes)) }
+    ensures { MatchResult result (λ same. (same ≡ bytes) × (length bytes ≤ MOST_BYTES)) (λ fault. (fault ≡ OpsFault.TooLong) × (MOST_BYTES < length bytes)) }
 {
     if bytes.as_slice().len() > MOST_BYTES {
         return Err(OpsFault::TooLong);

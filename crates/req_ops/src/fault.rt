@@ -23,11 +23,12 @@ pub enum SetFault {
 impl SetFault {
     ghost use Rattle.std.specs.Prelude.{◌≡◌, ◌+◌, ◌≤◌, ◌++◌, length};
     ghost use Rattle.line_text.specs.LineText.{line_bytes};
+    ghost use Rattle.line_text.specs.declared.limits.TheConstants.{FRONT_LIMIT};
     ghost use Rattle.req_ops.specs.FaultText.{set_fault_text};
 
     /// Appends the refusal's number, its name and its fields; nothing for want of memory.
     pub fn line_into(&self, out: &mut LineText)
-        requires { length (line_bytes out.old) ≤ 400 }
+        requires { length (line_bytes out.old) ≤ FRONT_LIMIT }
         ensures text { line_bytes out.new ≡ line_bytes out.old ++ set_fault_text self.now }
         ensures length { length (line_bytes out.new) ≤ length (line_bytes out.old) + 150 }
     {

@@ -1,9 +1,10 @@
 //! Sets that are written and read again, and the other way round.
 
 ghost use Rattle.std.specs.Prelude.{◌≡◌, ◌<◌, ◌↔◌, ◌⊎◌, length, IfOk, IfErr};
-ghost use Rattle.req_tree.specs.TreeSet.{TreeSet};
+ghost use Rattle.req_tree.specs.TreeSet.{TreeSet, IsEncodableSet};
+ghost use Rattle.req_blob.specs.declared.limits.TheConstants.{MOST_BYTES};
 ghost use Rattle.req_ops.specs.Sets.{IsSetSpelling, SetFails};
-ghost use Rattle.req_ops.specs.SetEncoding.{IsEncodableSet, IsPlainSet, plain_set};
+ghost use Rattle.req_ops.specs.SetEncoding.{IsPlainSet, plain_set};
 
 use crate::decoding::decode_set;
 use crate::encoding::encode_set;
@@ -16,7 +17,7 @@ use std::alloc::Global;
 pub fn reread_set(alloc: Global, set: &ReqSet) -> Result<ReqSet, SetFault>
     requires { IsEncodableSet set.now }
     ensures same { IfOk result (λ again. again ≡ set.now) }
-    ensures fault { IfErr result (λ fault. (fault ≡ SetFault.OutOfMemory) ⊎ ((fault ≡ SetFault.TooLong) × (1048576 < length (plain_set set.now)))) }
+    ensures fault { IfErr result (λ fault. (fault ≡ SetFault.OutOfMemory) ⊎ ((fault ≡ SetFault.TooLong) × (MOST_BYTES < length (plain_set set.now)))) }
 {
     match encode_set(alloc, set) {
         Ok(bytes) => decode_set(alloc, bytes.as_slice()),
@@ -40,7 +41,7 @@ pub fn respell_set(alloc: Global, bytes: &[u8]) -> Result<Bytes, SetFault>
 fn write_again(alloc: Global, set: ReqSet) -> Result<Bytes, SetFault>
     requires { IsEncodableSet set }
     ensures plain { IfOk result (λ bytes. IsPlainSet set bytes) }
-    ensures fault { IfErr result (λ fault. (fault ≡ SetFault.OutOfMemory) ⊎ ((fault ≡ SetFault.TooLong) × (1048576 < length (plain_set set)))) }
+    ensures fault { IfErr result (λ fault. (fault ≡ SetFault.OutOfMemory) ⊎ ((fault ≡ SetFault.TooLong) × (MOST_BYTES < length (plain_set set)))) }
 {
     let written = encode_set(alloc, &set);
     drop(set);

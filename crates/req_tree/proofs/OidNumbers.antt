@@ -3,8 +3,9 @@ use Rattle.std.proofs.Common.{IsTrue, ◌≡◌, ◌≢◌, ℕ, suc, ◌+◌, �
 use Rattle.std.proofs.lemmas.Bool.Decides.{nat_tests}
 use Rattle.std.specs.List.{fold}
 use Rattle.std.proofs.lemmas.List.Elements.{All-nil, All-cons, All-head, All-tail}
-use Rattle.req_tree.specs.Oid.{WritesNumber, WriteNumbers, IsOid, IsOidBytes, HasNumbers}
-use Rattle.req_tree.specs.OidReading.{number_from, number_at}
+use Rattle.req_tree.specs.Oid.{WritesNumber, WriteNumbers, IsOid, IsOidBytes}
+use Rattle.req_tree.specs.Steps.{HasNumbers}
+use Rattle.req_tree.specs.OidReading.{septets_from, septets_at}
 pub use Rattle.req_tree.specs.Oid.{IsBytes}
 
 -- the number after a part of it
@@ -47,18 +48,18 @@ then_else true true x y z h k = cc
 then_else false c x y z h k = cc
 
 -- what stands at the front is read, whatever follows
-number_from-reads : (front : List ℕ) (part last : ℕ) (rest : List ℕ) → IsHigh front → last < 128 → base_from part (front ++ last ∷ []) < 2 ^ 32
-    → number_from part (front ++ last ∷ rest) ≡ Some (base_from part (front ++ last ∷ []), rest)
-number_from-reads [] part last rest high end small =
+septets_from-reads : (front : List ℕ) (part last : ℕ) (rest : List ℕ) → IsHigh front → last < 128 → base_from part (front ++ last ∷ []) < 2 ^ 32
+    → septets_from part (front ++ last ∷ rest) ≡ Some (base_from part (front ++ last ∷ []), rest)
+septets_from-reads [] part last rest high end small =
     let fits : nat_lt (128 * part + last % 128) (2 ^ 32) ≡ true = grind (arith, nat_tests) in
     let ends : nat_lt last 128 ≡ true = grind (arith, nat_tests) in
     both_true _ _ _ _ _ fits ends
-number_from-reads (b ∷ front) part last rest high end small =
+septets_from-reads (b ∷ front) part last rest high end small =
     let more : 128 * part + b % 128 ≤ base_from (128 * part + b % 128) (front ++ last ∷ []) = base_from-le (128 * part + b % 128) (front ++ last ∷ []) in
     let fits : nat_lt (128 * part + b % 128) (2 ^ 32) ≡ true = grind (arith, nat_tests, more, small) in
     let b_high : 128 ≤ b = high.0.0 in
     let goes_on : nat_lt b 128 ≡ false = grind (arith, nat_tests, b_high) in
-    then_else _ _ _ _ _ fits goes_on ∙ number_from-reads front (128 * part + b % 128) last rest high.1 end small
+    then_else _ _ _ _ _ fits goes_on ∙ septets_from-reads front (128 * part + b % 128) last rest high.1 end small
 
 number_in : Option (ℕ × List ℕ) → ℕ
 number_in None = 0
@@ -109,13 +110,13 @@ took_more part b n after rest high t = record {
 }
 
 -- a reading takes what is written
-number_from-took : (bytes : List ℕ) (part n : ℕ) (rest : List ℕ) → IsBytes bytes → number_from part bytes ≡ Some (n, rest) → Took part n bytes rest
-number_from-took [] part n rest are h = cc
-number_from-took (b ∷ after) part n rest are h = by_tests (nat_lt (128 * part + b % 128) (2 ^ 32)) (nat_lt b 128) refl refl h (number_from-took after (128 * part + b % 128) n rest (λ i. are (suc i)))
+septets_from-took : (bytes : List ℕ) (part n : ℕ) (rest : List ℕ) → IsBytes bytes → septets_from part bytes ≡ Some (n, rest) → Took part n bytes rest
+septets_from-took [] part n rest are h = cc
+septets_from-took (b ∷ after) part n rest are h = by_tests (nat_lt (128 * part + b % 128) (2 ^ 32)) (nat_lt b 128) refl refl h (septets_from-took after (128 * part + b % 128) n rest (λ i. are (suc i)))
   where
     by_tests : (fits ends : Bool) → nat_lt (128 * part + b % 128) (2 ^ 32) ≡ fits → nat_lt b 128 ≡ ends
-        → (if fits then (if ends then Some (128 * part + b % 128, after) else number_from (128 * part + b % 128) after) else None) ≡ Some (n, rest)
-        → (number_from (128 * part + b % 128) after ≡ Some (n, rest) → Took (128 * part + b % 128) n after rest)
+        → (if fits then (if ends then Some (128 * part + b % 128, after) else septets_from (128 * part + b % 128) after) else None) ≡ Some (n, rest)
+        → (septets_from (128 * part + b % 128) after ≡ Some (n, rest) → Took (128 * part + b % 128) n after rest)
         → Took part n (b ∷ after) rest
     by_tests false ends f e g again = cc
     by_tests true true f e g again =
@@ -142,16 +143,16 @@ first-append [] last rest = refl
 first-append (x ∷ front) last rest = refl
 
 -- a number that is written is read
-pub number_at-reads : (n : ℕ) (bytes rest : List ℕ) → WritesNumber n bytes → number_at (bytes ++ rest) ≡ Some (n, rest)
-number_at-reads n bytes rest w =
+pub septets_at-reads : (n : ℕ) (bytes rest : List ℕ) → WritesNumber n bytes → septets_at (bytes ++ rest) ≡ Some (n, rest)
+septets_at-reads n bytes rest w =
     let begins : slice_index (bytes ++ rest) 0 ≡ slice_index bytes 0 = ap (λ bs. slice_index (bs ++ rest) 0) w.parts ∙ first-append w.front w.last rest ∙ ap (λ bs. slice_index bs 0) (sym w.parts) in
     let no_pad : slice_index (bytes ++ rest) 0 ≢ 128 = λ e. w.fewest (sym begins ∙ e) in
     let parts : bytes ++ rest ≡ w.front ++ w.last ∷ rest = ap (λ bs. bs ++ rest) w.parts ∙ append_assoc w.front (w.last ∷ []) rest in
     let value : base_from 0 (w.front ++ w.last ∷ []) ≡ n = ap (base_from 0) (sym w.parts) ∙ w.value in
     let small : base_from 0 (w.front ++ w.last ∷ []) < 2 ^ 32 = subst (λ (k : ℕ). k < 2 ^ 32) (sym value) w.small in
     if_false _ _ _ (not_eq _ _ no_pad)
-    ∙ ap (number_from 0) parts
-    ∙ number_from-reads w.front 0 w.last rest (high_of w.front w.more) w.end small
+    ∙ ap (septets_from 0) parts
+    ∙ septets_from-reads w.front 0 w.last rest (high_of w.front w.more) w.end small
     ∙ ap (λ k. Some (k, rest)) value
 
 is_written : (n : ℕ) (bytes rest : List ℕ) → NoPad bytes → (t : Took 0 n bytes rest) → WritesNumber n (t.front ++ t.last ∷ [])
@@ -166,42 +167,42 @@ is_written n bytes rest no_pad t = record {
   small = t.small;
 }
 
-at_number : (b : Bool) (n : ℕ) (bytes rest : List ℕ) → (slice_index bytes 0 == 128) ≡ b → (if b then None else number_from 0 bytes) ≡ Some (n, rest)
-    → NoPad bytes × (number_from 0 bytes ≡ Some (n, rest))
+at_number : (b : Bool) (n : ℕ) (bytes rest : List ℕ) → (slice_index bytes 0 == 128) ≡ b → (if b then None else septets_from 0 bytes) ≡ Some (n, rest)
+    → NoPad bytes × (septets_from 0 bytes ≡ Some (n, rest))
 at_number true n bytes rest e h = cc
 at_number false n bytes rest e h = (λ (k : slice_index bytes 0 ≡ 128). absurd (grind (arith, nat_tests, e, k)), h)
 
 -- what is read at the front, before what is written behind it
-pub numbers_before : (n : ℕ) (numbers bytes rest : List ℕ) → IsBytes bytes → number_at bytes ≡ Some (n, rest) → WriteNumbers numbers rest → WriteNumbers (n ∷ numbers) bytes
+pub numbers_before : (n : ℕ) (numbers bytes rest : List ℕ) → IsBytes bytes → septets_at bytes ≡ Some (n, rest) → WriteNumbers numbers rest → WriteNumbers (n ∷ numbers) bytes
 numbers_before n numbers bytes rest are h w =
     let read = at_number (slice_index bytes 0 == 128) n bytes rest refl h in
-    let t : Took 0 n bytes rest = number_from-took bytes 0 n rest are read.1 in
+    let t : Took 0 n bytes rest = septets_from-took bytes 0 n rest are read.1 in
     (t.front ++ t.last ∷ [], rest, t.parts ∙ sym (append_assoc t.front (t.last ∷ []) rest), is_written n bytes rest read.0 t, w)
 
 -- what follows the first number is read
-pub numbers_next : (numbers : List ℕ) (n : ℕ) (bytes rest : List ℕ) → WriteNumbers numbers bytes → number_at bytes ≡ Some (n, rest)
+pub numbers_next : (numbers : List ℕ) (n : ℕ) (bytes rest : List ℕ) → WriteNumbers numbers bytes → septets_at bytes ≡ Some (n, rest)
     → (later : List ℕ) × (numbers ≡ n ∷ later) × WriteNumbers later rest
 numbers_next [] n bytes rest w h =
-    let none : number_at bytes ≡ None = ap number_at w in
+    let none : septets_at bytes ≡ None = ap septets_at w in
     cc
 numbers_next (m ∷ numbers) n bytes rest w h =
-    let read : number_at bytes ≡ Some (m, w.1) = ap number_at w.2 ∙ number_at-reads m w.0 w.1 w.3 in
+    let read : septets_at bytes ≡ Some (m, w.1) = ap septets_at w.2 ∙ septets_at-reads m w.0 w.1 w.3 in
     let same : m ≡ n = same_number m n w.1 rest (sym read ∙ h) in
     let behind : w.1 ≡ rest = same_rest m n w.1 rest (sym read ∙ h) in
     (numbers, ap (λ k. k ∷ numbers) same, subst (WriteNumbers numbers) behind w.4)
 
 -- where nothing is read there are no numbers
-pub numbers_end : (numbers bytes : List ℕ) → WriteNumbers numbers bytes → number_at bytes ≡ None → (numbers ≡ []) × (bytes ≡ [])
+pub numbers_end : (numbers bytes : List ℕ) → WriteNumbers numbers bytes → septets_at bytes ≡ None → (numbers ≡ []) × (bytes ≡ [])
 numbers_end [] bytes w h = (refl, w)
 numbers_end (m ∷ numbers) bytes w h =
-    let read : number_at bytes ≡ Some (m, w.1) = ap number_at w.2 ∙ number_at-reads m w.0 w.1 w.3 in
+    let read : septets_at bytes ≡ Some (m, w.1) = ap septets_at w.2 ∙ septets_at-reads m w.0 w.1 w.3 in
     cc
 
 -- bytes are those of one list of numbers
 pub same_numbers : (ns ms bytes : List ℕ) → WriteNumbers ns bytes → WriteNumbers ms bytes → ns ≡ ms
-same_numbers [] ms bytes w v = sym (numbers_end ms bytes v (ap number_at w)).0
+same_numbers [] ms bytes w v = sym (numbers_end ms bytes v (ap septets_at w)).0
 same_numbers (n ∷ ns) ms bytes w v =
-    let read : number_at bytes ≡ Some (n, w.1) = ap number_at w.2 ∙ number_at-reads n w.0 w.1 w.3 in
+    let read : septets_at bytes ≡ Some (n, w.1) = ap septets_at w.2 ∙ septets_at-reads n w.0 w.1 w.3 in
     let next = numbers_next ms n bytes w.1 v read in
     ap (λ r. n ∷ r) (same_numbers ns next.0 w.1 w.4 next.2) ∙ sym next.1
 
@@ -318,22 +319,22 @@ bytes_behind : (front rest : List ℕ) → IsBytes (front ++ rest) → IsBytes r
 bytes_behind [] rest are = are
 bytes_behind (x ∷ front) rest are = bytes_behind front rest (λ i. are (suc i))
 
-pub bytes_after : (n : ℕ) (bytes rest : List ℕ) → IsBytes bytes → number_at bytes ≡ Some (n, rest) → IsBytes rest
+pub bytes_after : (n : ℕ) (bytes rest : List ℕ) → IsBytes bytes → septets_at bytes ≡ Some (n, rest) → IsBytes rest
 bytes_after n bytes rest are h =
     let read = at_number (slice_index bytes 0 == 128) n bytes rest refl h in
-    let t : Took 0 n bytes rest = number_from-took bytes 0 n rest are read.1 in
+    let t : Took 0 n bytes rest = septets_from-took bytes 0 n rest are read.1 in
     let parts : bytes ≡ (t.front ++ t.last ∷ []) ++ rest = t.parts ∙ sym (append_assoc t.front (t.last ∷ []) rest) in
     bytes_behind (t.front ++ t.last ∷ []) rest (subst IsBytes parts are)
 
-pub has_after : (n : ℕ) (bytes rest : List ℕ) → number_at bytes ≡ Some (n, rest) → HasNumbers bytes → HasNumbers rest
+pub has_after : (n : ℕ) (bytes rest : List ℕ) → septets_at bytes ≡ Some (n, rest) → HasNumbers bytes → HasNumbers rest
 has_after n bytes rest h has =
     let next = numbers_next has.0 n bytes rest has.1 h in
     (next.0, next.2)
 
-pub has_before : (n : ℕ) (bytes rest : List ℕ) → IsBytes bytes → number_at bytes ≡ Some (n, rest) → HasNumbers rest → HasNumbers bytes
+pub has_before : (n : ℕ) (bytes rest : List ℕ) → IsBytes bytes → septets_at bytes ≡ Some (n, rest) → HasNumbers rest → HasNumbers bytes
 has_before n bytes rest are h has = (n ∷ has.0, numbers_before n has.0 bytes rest are h has.1)
 
-pub has_end : (bytes : List ℕ) → number_at bytes ≡ None → HasNumbers bytes → bytes ≡ []
+pub has_end : (bytes : List ℕ) → septets_at bytes ≡ None → HasNumbers bytes → bytes ≡ []
 has_end bytes h has = (numbers_end has.0 bytes has.1 h).1
 
 pub has_none : (bytes : List ℕ) → bytes ≡ [] → HasNumbers bytes
@@ -368,7 +369,7 @@ tested_empty [] h = refl
 tested_empty (x ∷ xs) h = cc
 
 -- the loop has come to the end, or to bytes that are no number
-pub has_numbers_when : (bytes rest : List ℕ) (ends : Bool) → ends ≡ (length rest == 0) → number_at rest ≡ None → (HasNumbers bytes → HasNumbers rest) → (HasNumbers rest → HasNumbers bytes)
+pub has_numbers_when : (bytes rest : List ℕ) (ends : Bool) → ends ≡ (length rest == 0) → septets_at rest ≡ None → (HasNumbers bytes → HasNumbers rest) → (HasNumbers rest → HasNumbers bytes)
     → (IsTrue ends → HasNumbers bytes) × (HasNumbers bytes → IsTrue ends)
 has_numbers_when bytes rest ends e none to back =
     (λ h. back (has_none rest (empty_when rest (sym e ∙ h))), λ has. e ∙ tested_empty rest (has_end rest none (to has)))

@@ -11,7 +11,8 @@ use Rattle.std.specs.Str.{all_ascii_digits}
 use Rattle.std.specs.Char.{is_ascii_digit}
 use Rattle.req_tree.specs.NumericOrder.{number_of}
 use Rattle.req_tree.specs.Oid.{WritesNumber, WriteNumbers, IsOid, IsOidBytes, IsOidText, dotted}
-use Rattle.req_tree.specs.OidReading.{arc_words, words_of, is_arc, second_number, first_number, arc_number, before, later_numbers, from_first, numbers_of_text, dotted_arc, ReadsNumbers}
+use Rattle.req_tree.specs.OidReading.{arc_words, is_arc, second_number, first_number, arc_number, before, later_numbers, from_first, numbers_of_text, ReadsNumbers}
+use Rattle.req_tree.specs.Steps.{words_of, dotted_arc}
 use Rattle.req_tree.specs.OidReading as reading
 use Rattle.req_tree.specs.declared.fault.OidFault.{OidFault}
 use Rattle.req_tree.specs.declared.fault.OidFault.TheVariants.{BadArc, ArcTooLarge, TooShort, OutOfMemory}
@@ -323,17 +324,13 @@ one_text oid s t h k =
             let c_is : 2 ≤ c = grind (arith, nat_tests, y) in
             omega (arith, h, h', a_is, c_is)
 
--- what the public call says of a reading
-pub read_found : (r : Result (List ℕ) OidFault) (text : List ℕ) → ReadsNumbers (numbers_of_text text) r → IfOk r (λ oid. IsOidText oid text)
-read_found (Ok oid) text h = read_text text h.0 oid h.1 h.2
-read_found (Err fault) text h = tt
-
 memory_or : (fault : OidFault) → (fault ≢ OutOfMemory → ⊥) → fault ≡ OutOfMemory
 memory_or OutOfMemory h = refl
 memory_or BadArc h = absurd (h (λ e. cc))
 memory_or ArcTooLarge h = absurd (h (λ e. cc))
 memory_or TooShort h = absurd (h (λ e. cc))
 
+-- the text of an object identifier is refused for memory alone
 pub read_only : (r : Result (List ℕ) OidFault) (text : List ℕ) → ReadsNumbers (numbers_of_text text) r → (oid : List ℕ) → IsOidText oid text
     → MatchResult r (λ read. read ≡ oid) (λ fault. fault ≡ OutOfMemory)
 read_only (Ok read) text h oid t = one_oid text read oid (read_text text h.0 read h.1 h.2) t
@@ -400,7 +397,7 @@ join-dotted first [] = sym (append-nil first)
 join-dotted first (n ∷ rest) = ap (λ r. first ++ 46 ∷ r) (join-dotted (decimal n) rest)
 
 -- one more arc was written
-pub arc_written : (old now text_1 text_2 : List ℕ) (ns bytes after : List ℕ) (n : ℕ) → reading.number_at bytes ≡ Some (n, after)
+pub arc_written : (old now text_1 text_2 : List ℕ) (ns bytes after : List ℕ) (n : ℕ) → reading.septets_at bytes ≡ Some (n, after)
     → text_1 ≡ now ++ 46 ∷ [] → text_2 ≡ text_1 ++ decimal n
     → (ms : List ℕ) × WriteNumbers ms bytes × (old ++ flat_map dotted_arc ns ≡ now ++ flat_map dotted_arc ms)
     → (ms : List ℕ) × WriteNumbers ms after × (old ++ flat_map dotted_arc ns ≡ text_2 ++ flat_map dotted_arc ms)
@@ -414,7 +411,7 @@ arc_written old now text_1 text_2 ns bytes after n read e f so_far =
           ∙ ap (λ t. t ++ flat_map dotted_arc next.0) (sym (f ∙ ap (λ t. t ++ decimal n) e ∙ append_assoc now (46 ∷ []) (decimal n))),
     )
 
-pub arcs_written : (old now ns bytes : List ℕ) → reading.number_at bytes ≡ None
+pub arcs_written : (old now ns bytes : List ℕ) → reading.septets_at bytes ≡ None
     → (ms : List ℕ) × WriteNumbers ms bytes × (old ++ flat_map dotted_arc ns ≡ now ++ flat_map dotted_arc ms)
     → now ≡ old ++ flat_map dotted_arc ns
 arcs_written old now ns bytes none so_far =
@@ -426,11 +423,11 @@ arcs_written old now ns bytes none so_far =
     append-nil (x ∷ xs) = ap (λ r. x ∷ r) (append-nil xs)
 
 -- an object identifier begins with a number
-pub no_first : (bytes : List ℕ) → IsOidBytes bytes → reading.number_at bytes ≡ None → ⊥
+pub no_first : (bytes : List ℕ) → IsOidBytes bytes → reading.septets_at bytes ≡ None → ⊥
 no_first bytes oid none = oid_some bytes oid (has_end bytes none (oid_numbers bytes oid))
 
 -- the whole text was written
-pub oid_written : (bytes rest old text_1 text_2 : List ℕ) (n : ℕ) → IsOidBytes bytes → reading.number_at bytes ≡ Some (n, rest)
+pub oid_written : (bytes rest old text_1 text_2 : List ℕ) (n : ℕ) → IsOidBytes bytes → reading.septets_at bytes ≡ Some (n, rest)
     → text_1 ≡ old ++ (decimal (first_arc n) ++ 46 ∷ decimal (n - 40 * first_arc n))
     → ((numbers : List ℕ) → WriteNumbers numbers rest → text_2 ≡ text_1 ++ flat_map dotted_arc numbers)
     → (arcs : List ℕ) × IsOid arcs bytes × (text_2 ≡ old ++ dotted arcs)

@@ -6,7 +6,9 @@ pub mod NumericOrder
 pub mod Meaning
 pub mod Depth
 pub mod Normal
+pub mod Spellable
 pub mod Oid
 pub mod OidReading
+pub mod Steps
 pub mod TreeSet
 pub mod HashWord

@@ -9,7 +9,7 @@ use Rattle.req_tree.specs.declared.matching.Match.TheVariants.{Exists, Absent, E
 use Rattle.req_tree.specs.Tree as t
 use Rattle.req_tree.specs.Tree.{Tree}
 use Rattle.req_tree.specs.Subject.{Subject}
-use Rattle.req_tree.specs.Facts.{Facts, Known, Certificate, Value, text, truth, texts, known_of, value_at}
+use Rattle.req_tree.specs.Facts.{Facts, Known, Certificate, Value, text, truth, texts, known_of}
 use Rattle.req_tree.specs.NumericOrder.{numeric_order}
 
 -- the part stands somewhere in the text
@@ -46,7 +46,7 @@ abbrev pub value_match : Option Value → Match → Bool
 value_match None test = is_absent test
 value_match (Some (text bytes)) test = text_match bytes test
 value_match (Some (truth b)) test = is_exists test && b
-value_match (Some (texts all)) test = list_any (λ bytes. text_match bytes test) all
+value_match (Some (texts first others)) test = text_match first test || list_any (λ bytes. text_match bytes test) others
 
 -- the certificate of a slot: from the leaf at 0 upwards, from the anchor at -1 downwards
 abbrev pub cert_at : ℤ → List Certificate → Option Certificate
@@ -58,38 +58,34 @@ abbrev pub of_cert : Option Certificate → (Certificate → Bool) → Bool
 of_cert None test = false
 of_cert (Some certificate) test = test certificate
 
--- the name is one of these, byte for byte
-abbrev pub names : List (List ℕ) → List ℕ → Bool
-names all name = list_any (λ other. bytes_eq other name) all
+-- whether the requirement holds of a subject of whose hash so much is known
+abbrev pub means : Tree → Subject → Known → Bool
+means t.never s k = false
+means t.always s k = true
+means (t.ident value) s k = bytes_eq s.identifier value
+means t.apple_anchor s k = k.apple_anchor
+means (t.anchor_hash slot hash) s k = of_cert (cert_at slot k.chain) (λ c. bytes_eq c.hash hash)
+means (t.legacy_info key value) s k = value_match (k.info key) (Equal value)
+means (t.both left right) s k = means left s k && means right s k
+means (t.either left right) s k = means left s k || means right s k
+means (t.cd_hash hash) s k = bytes_eq s.cdhash hash
+means (t.negate inner) s k = not (means inner s k)
+means (t.info_field key test) s k = value_match (k.info key) test
+means (t.cert_field slot key test) s k = of_cert (cert_at slot k.chain) (λ c. value_match (c.field key) test)
+means (t.trusted_cert slot) s k = of_cert (cert_at slot k.chain) (λ c. c.trusted)
+means t.trusted_any s k = list_any (λ (c : Certificate). c.trusted) k.chain
+means (t.cert_oid slot oid test) s k = of_cert (cert_at slot k.chain) (λ c. value_match (c.oid oid) test)
+means t.apple_generic s k = k.apple_generic
+means (t.entitlement_field key test) s k = value_match (k.entitlement key) test
+means (t.cert_policy slot oid test) s k = of_cert (cert_at slot k.chain) (λ c. value_match (c.policy oid) test)
+means (t.named_anchor name) s k = k.anchor_name name
+means (t.named_code name) s k = k.code_name name
+means (t.platform number) s k = int_eq (pos s.platform) number
+means t.notarized s k = k.notarized
+means t.legacy_dev_id s k = k.legacy_dev_id
+means (t.skip_false op skipped) s k = false
+means (t.skip_next op skipped inner) s k = means inner s k
 
--- what is known of the subject's hash
-abbrev pub known : Subject → Facts → Known
-known s f = known_of f s.cdhash
-
--- whether the requirement holds
+-- whether the requirement holds, by what is known of the subject's hash
 abbrev pub mean : Tree → Subject → Facts → Bool
-mean t.never s f = false
-mean t.always s f = true
-mean (t.ident value) s f = bytes_eq s.identifier value
-mean t.apple_anchor s f = (known s f).apple_anchor
-mean (t.anchor_hash slot hash) s f = of_cert (cert_at slot (known s f).chain) (λ c. bytes_eq c.hash hash)
-mean (t.legacy_info key value) s f = value_match (value_at key (known s f).info) (Equal value)
-mean (t.both left right) s f = mean left s f && mean right s f
-mean (t.either left right) s f = mean left s f || mean right s f
-mean (t.cd_hash hash) s f = bytes_eq s.cdhash hash
-mean (t.negate inner) s f = not (mean inner s f)
-mean (t.info_field key test) s f = value_match (value_at key (known s f).info) test
-mean (t.cert_field slot key test) s f = of_cert (cert_at slot (known s f).chain) (λ c. value_match (value_at key c.fields) test)
-mean (t.trusted_cert slot) s f = of_cert (cert_at slot (known s f).chain) (λ c. c.trusted)
-mean t.trusted_any s f = list_any (λ (c : Certificate). c.trusted) (known s f).chain
-mean (t.cert_oid slot oid test) s f = of_cert (cert_at slot (known s f).chain) (λ c. value_match (value_at oid c.oids) test)
-mean t.apple_generic s f = (known s f).apple_generic
-mean (t.entitlement_field key test) s f = value_match (value_at key (known s f).entitlements) test
-mean (t.cert_policy slot oid test) s f = of_cert (cert_at slot (known s f).chain) (λ c. value_match (value_at oid c.policies) test)
-mean (t.named_anchor name) s f = names (known s f).anchor_names name
-mean (t.named_code name) s f = names (known s f).code_names name
-mean (t.platform number) s f = int_eq (pos s.platform) number
-mean t.notarized s f = (known s f).notarized
-mean t.legacy_dev_id s f = (known s f).legacy_dev_id
-mean (t.skip_false op skipped) s f = false
-mean (t.skip_next op skipped inner) s f = mean inner s f
+mean tree s f = means tree s (known_of f s.cdhash)

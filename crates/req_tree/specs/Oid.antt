@@ -18,12 +18,6 @@ pub record WritesNumber (n : ℕ) (bytes : List ℕ) : Type 0 where
   pub value : base_128 bytes ≡ n
   pub small : n < 2 ^ 32
 
--- all bytes of a number but the last: the number without its last seven bits
-pub record IsFront (n : ℕ) (front : List ℕ) : Type 0 where
-  pub more : All (λ b. (128 ≤ b) × (b < 256)) front
-  pub fewest : slice_index front 0 ≢ 128
-  pub value : base_128 front ≡ n
-
 -- numbers one after another
 abbrev pub WriteNumbers : List ℕ → List ℕ → Type 0
 WriteNumbers [] bytes = bytes ≡ []
@@ -32,10 +26,6 @@ WriteNumbers (n ∷ numbers) bytes = (front rest : List ℕ) × (bytes ≡ front
 -- each element of the list is a byte
 abbrev pub IsBytes : List ℕ → Type 0
 IsBytes bytes = (i : ℕ) → slice_index bytes i < 256
-
--- the bytes are whole numbers
-abbrev pub HasNumbers : List ℕ → Type 0
-HasNumbers bytes = (numbers : List ℕ) × WriteNumbers numbers bytes
 
 -- the bytes of these arcs: the first two arcs a and b make the one number 40 a + b, so b is at most
 -- 39 where a is below 2

@@ -7,39 +7,30 @@ use Rattle.req_tree.specs.NumericOrder.{number_of}
 use Rattle.req_tree.specs.declared.fault.OidFault.{OidFault}
 use Rattle.req_tree.specs.declared.fault.OidFault.TheVariants.{BadArc, ArcTooLarge, TooShort, OutOfMemory}
 
--- seven more bits of a number, which stays below 2^32
-abbrev pub with_septet : ℕ → ℕ → Option ℕ
-with_septet part b = if nat_lt (128 * part + b % 128) (2 ^ 32) then Some (128 * part + b % 128) else None
-
 -- the number at the front of the bytes, after the part so far, and what follows it
-abbrev pub number_from : ℕ → List ℕ → Option (ℕ × List ℕ)
-number_from part [] = None
-number_from part (b ∷ rest) =
-    if nat_lt (128 * part + b % 128) (2 ^ 32) then (if nat_lt b 128 then Some (128 * part + b % 128, rest) else number_from (128 * part + b % 128) rest)
+abbrev pub septets_from : ℕ → List ℕ → Option (ℕ × List ℕ)
+septets_from part [] = None
+septets_from part (b ∷ rest) =
+    if nat_lt (128 * part + b % 128) (2 ^ 32) then (if nat_lt b 128 then Some (128 * part + b % 128, rest) else septets_from (128 * part + b % 128) rest)
     else None
 
 -- a number does not begin with 128, which would add nothing
-abbrev pub number_at : List ℕ → Option (ℕ × List ℕ)
-number_at bytes = if slice_index bytes 0 == 128 then None else number_from 0 bytes
+abbrev pub septets_at : List ℕ → Option (ℕ × List ℕ)
+septets_at bytes = if slice_index bytes 0 == 128 then None else septets_from 0 bytes
 
 -- behind a number that was read whole numbers fill the rest; the count bounds how many
 abbrev pub numbers_behind : ℕ → Option (ℕ × List ℕ) → Bool
 numbers_behind count None = false
 numbers_behind zero (Some p) = length p.1 == 0
-numbers_behind (suc count) (Some p) = length p.1 == 0 || numbers_behind count (number_at p.1)
+numbers_behind (suc count) (Some p) = length p.1 == 0 || numbers_behind count (septets_at p.1)
 
 -- whole numbers fill the bytes, and there is one
 unfoldable pub is_oid : List ℕ → Bool
-is_oid bytes = numbers_behind (length bytes) (number_at bytes)
+is_oid bytes = numbers_behind (length bytes) (septets_at bytes)
 
 -- the words between the dots
 abbrev pub arc_words : List ℕ → List (List ℕ)
 arc_words text = slice_split (λ b. b == 46) text
-
--- the words of what follows a dot, and none where no dot was
-abbrev pub words_of : Option (List ℕ) → List (List ℕ)
-words_of None = []
-words_of (Some text) = arc_words text
 
 -- 0, or digits that begin with another
 abbrev pub is_arc : List ℕ → Bool
@@ -87,19 +78,6 @@ from_first (Ok p) = before (Ok p.0) (later_numbers p.1)
 abbrev pub numbers_of_text : List ℕ → Result (List ℕ) OidFault
 numbers_of_text text = from_first (first_number (arc_words text))
 
--- what a word's value is, up to 2^32; a word that is no arc has none
-abbrev pub IsArcValue : List ℕ → Option ℕ → Type 0
-IsArcValue word value = MatchOption value (is_arc word ≡ false) (λ n. (is_arc word ≡ true) × (n ≡ min (number_of word) (2 ^ 32)))
-
--- an arc behind another
-abbrev pub dotted_arc : ℕ → List ℕ
-dotted_arc n = 46 ∷ decimal n
-
 -- the numbers were read and written as bytes, or the fault is the first, or memory was wanting
 abbrev pub ReadsNumbers : Result (List ℕ) OidFault → Result (List ℕ) OidFault → Type 0
 ReadsNumbers numbers result = MatchResult result (λ bytes. (read : List ℕ) × (numbers ≡ Ok read) × WriteNumbers read bytes) (λ fault. fault ≢ OutOfMemory → numbers ≡ Err fault)
-
--- the same of bytes that are appended to others
-abbrev pub PushesNumbers : List ℕ → List ℕ → Result (List ℕ) OidFault → Result (Unit {0}) OidFault → Type 0
-PushesNumbers old new numbers result =
-    MatchResult result (λ _. (read bytes : List ℕ) × (numbers ≡ Ok read) × WriteNumbers read bytes × (new ≡ old ++ bytes)) (λ fault. fault ≢ OutOfMemory → numbers ≡ Err fault)

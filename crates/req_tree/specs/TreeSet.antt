@@ -1,9 +1,10 @@
 -- A set of requirements: at most one tree for each of five types.
 -- (The types are those of Apple's requirement sets: host, guest, designated, library, plugin.)
-use Rattle.std.specs.Prelude.{ℕ, ◌≤◌, ◌==◌, if◌then◌else◌, Option, None, Some, refl}
+use Rattle.std.specs.Prelude.{ℕ, ◌≤◌, ◌==◌, if◌then◌else◌, Option, None, Some, IfSome, refl}
 use Rattle.std.specs.Coded.{Coded, code_by, coded_option, coded×}
 use Rattle.req_tree.specs.Tree.{Tree}
 use Rattle.req_tree.specs.TreeCode.{tree_code}
+use Rattle.req_tree.specs.Spellable.{IsEncodable}
 
 -- the tree of each type, where there is one
 pub record TreeSet : Type 0 where
@@ -34,6 +35,10 @@ with_part kind tree s =
     else (if kind == 3 then record s { designated = Some tree }
     else (if kind == 4 then record s { library = Some tree }
     else (if kind == 5 then record s { plugin = Some tree } else s))))
+
+-- each tree of the set can be written
+pub record IsEncodableSet (s : TreeSet) : Type 0 where
+  pub parts : (kind : ℕ) → IfSome (part_of kind s) IsEncodable
 
 -- a set is stored as its five parts
 abbrev pub set_code : Coded TreeSet

@@ -6,6 +6,7 @@ ghost use Rattle.req_tree.specs.Subject.{Subject};
 ghost use Rattle.req_tree.specs.Facts.{Facts};
 ghost use Rattle.req_tree.specs.Meaning.{mean};
 ghost use Rattle.req_tree.specs.Normal.{IsSpoken, normal};
+ghost use Rattle.req_tree.specs.Spellable.{CanSpell, IsShallow, IsEncodable};
 ghost use Rattle.req_tree.specs.Oid.{IsBytes, IsOidBytes, IsOidText};
 ghost use Rattle.req_tree.specs.OidReading.{is_oid};
 
@@ -22,6 +23,13 @@ pub fn normal_forms_keep_the_meaning()
 /// A spoken tree is its own normal form.
 pub fn spoken_trees_are_normal()
     ensures { (tree : Tree) → IsSpoken tree → normal tree ≡ tree }
+{}
+
+/// The normal form of a tree that can be spelt can be spelt, and where it is no deeper than a requirement may
+/// be it can be written.
+pub fn normal_forms_can_be_spelt()
+    ensures spelt { (tree : Tree) → CanSpell tree → CanSpell (normal tree) }
+    ensures written { (tree : Tree) → IsEncodable tree → IsShallow (normal tree) → IsEncodable (normal tree) }
 {}
 
 /// A text is that of one object identifier at most.

@@ -1,12 +1,14 @@
 //! Object identifiers read from bytes and written to them: numbers in base 128.
 
 ghost use Rattle.std.specs.Prelude.{◌≡◌, ◌↔◌, ◌<◌, ◌++◌, ℕ, List, length, true, false, option_map, IfOk, IfSome, OnOk, IsErrOf, IsTrue};
-ghost use Rattle.req_tree.specs.Oid.{IsOidBytes, HasNumbers, WritesNumber, IsFront};
+ghost use Rattle.req_tree.specs.Oid.{IsOidBytes, WritesNumber};
+ghost use Rattle.req_tree.specs.Steps.{HasNumbers, IsNumberFront};
+ghost use Rattle.req_tree.specs.Steps as steps;
 ghost use Rattle.req_tree.specs.OidReading as reading;
 
-use line_text::Bytes;
 use crate::fault::OidBytesFault;
 use crate::oid::Oid;
+use line_text::Bytes;
 use std::alloc::{AllocError, Global};
 
 /// Refuses bytes that aren't those of an object identifier.
@@ -49,7 +51,7 @@ fn has_numbers(bytes: &[u8]) -> bool
 
 /// The number at the front of the bytes, and what follows it.
 pub(crate) fn number_at(bytes: &[u8]) -> Option<(u32, &[u8])>
-    ensures number { option_map (λ p. (p.0, p.1.now)) result ≡ reading.number_at bytes.now }
+    ensures number { option_map (λ p. (p.0, p.1.now)) result ≡ reading.septets_at bytes.now }
     ensures shorter { IfSome result (λ p. length p.1.now < length bytes.now) }
 {
     if bytes.first() == Some(&128) {
@@ -59,7 +61,7 @@ pub(crate) fn number_at(bytes: &[u8]) -> Option<(u32, &[u8])>
 }
 
 fn number_from(bytes: &[u8]) -> Option<(u32, &[u8])>
-    ensures number { option_map (λ p. (p.0, p.1.now)) result ≡ reading.number_from 0 bytes.now }
+    ensures number { option_map (λ p. (p.0, p.1.now)) result ≡ reading.septets_from 0 bytes.now }
     ensures shorter { IfSome result (λ p. length p.1.now < length bytes.now) }
 {
     let mut part = 0;
@@ -75,7 +77,7 @@ fn number_from(bytes: &[u8]) -> Option<(u32, &[u8])>
 
 /// The part of a number with seven more bits, and `None` where it is 2^32 or more.
 fn with_septet(part: u32, byte: u8) -> Option<u32>
-    ensures { result ≡ reading.with_septet part byte }
+    ensures { result ≡ steps.with_septet part byte }
 {
     let number = 128 * u64::from(part) + u64::from(byte % 128);
     u32::try_from(number).ok()
@@ -91,7 +93,7 @@ pub(crate) fn push_number(out: &mut Vec<u8>, number: u32) -> Result<(), AllocErr
 }
 
 fn push_front(out: &mut Vec<u8>, number: u32) -> Result<(), AllocError>
-    ensures { OnOk result ((front : List ℕ) × IsFront number front × (out.new.items ≡ out.old.items ++ front)) }
+    ensures { OnOk result ((front : List ℕ) × IsNumberFront number front × (out.new.items ≡ out.old.items ++ front)) }
 {
     if number == 0 {
         return Ok(());

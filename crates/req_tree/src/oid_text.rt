@@ -3,17 +3,19 @@
 ghost use Rattle.std.specs.Prelude.{◌≡◌, ◌≢◌, ◌≤◌, ◌^◌, ◌-◌, ◌*◌, ◌/◌, min, true, false, MatchOption, ◌∷◌, ◌++◌, ◌<◌, ℕ, List, length, Ok, Err, option_map, IfOk, IfErr, IfSome, OnOk, MatchResult, decimal};
 ghost use Rattle.req_tree.specs.Oid.{IsOid, IsOidBytes, IsOidText, WriteNumbers, dotted};
 ghost use Rattle.req_tree.specs.OidReading as reading;
-ghost use Rattle.req_tree.specs.OidReading.{IsArcValue, ReadsNumbers, PushesNumbers, dotted_arc};
+ghost use Rattle.req_tree.specs.OidReading.{ReadsNumbers};
+ghost use Rattle.req_tree.specs.Steps.{IsArcValue, PushesNumbers, dotted_arc};
+ghost use Rattle.req_tree.specs.Steps as steps;
 ghost use Rattle.req_tree.specs.NumericOrder.{number_of};
 ghost use Rattle.std.specs.List.{flat_map};
 ghost use Rattle.std.specs.Str.{all_ascii_digits};
 ghost use Rattle.std.specs.Result.{result_map_both};
 
-use line_text::Bytes;
 use crate::fault::OidFault;
 use crate::oid::Oid;
 use crate::oid_bytes::{number_at, push_number};
 use itoa::Buffer;
+use line_text::Bytes;
 use std::alloc::{AllocError, Global};
 
 /// The least number that is too large for one number of an object identifier.
@@ -23,7 +25,8 @@ const TOO_LARGE: u64 = 1 << 32;
 pub fn oid_from_text(alloc: Global, text: &[u8]) -> Result<Oid, OidFault>
     ensures found { IfOk result (λ oid. IsOidText oid text.now) }
     ensures only { (oid : List ℕ) → IsOidText oid text.now → MatchResult result (λ read. read ≡ oid) (λ fault. fault ≡ OidFault.OutOfMemory) }
-    ensures first { IfErr result (λ fault. fault ≢ OidFault.OutOfMemory → reading.numbers_of_text text.now ≡ Err fault) }
+    // The numbers of its arcs were read, or the fault is the first.
+    ensures numbers { ReadsNumbers (reading.numbers_of_text text.now) result }
 {
     match read_numbers(alloc, text) {
         Ok(bytes) => Ok(Oid::held(Bytes::from_vec(bytes))),
@@ -52,7 +55,7 @@ fn read_numbers(alloc: Global, text: &[u8]) -> Result<Vec<u8>, OidFault>
 
 /// The number of the first two arcs, and the text behind the dot that follows them.
 fn first_number(text: &[u8]) -> Result<(u32, Option<&[u8]>), OidFault>
-    ensures { result_map_both (λ p. (p.0, reading.words_of (option_map (λ r. r.now) p.1))) (λ fault. fault) result ≡ reading.first_number (reading.arc_words text.now) }
+    ensures { result_map_both (λ p. (p.0, steps.words_of (option_map (λ r. r.now) p.1))) (λ fault. fault) result ≡ reading.first_number (reading.arc_words text.now) }
 {
     let (word, rest) = cut_word(text);
     let Some(first) = arc_value(word) else {
@@ -69,7 +72,7 @@ fn first_number(text: &[u8]) -> Result<(u32, Option<&[u8]>), OidFault>
 
 fn second_number(first: u64, text: &[u8]) -> Result<(u32, Option<&[u8]>), OidFault>
     requires { first ≤ 2 }
-    ensures { result_map_both (λ p. (p.0, reading.words_of (option_map (λ r. r.now) p.1))) (λ fault. fault) result ≡ reading.second_number first (reading.arc_words text.now) }
+    ensures { result_map_both (λ p. (p.0, steps.words_of (option_map (λ r. r.now) p.1))) (λ fault. fault) result ≡ reading.second_number first (reading.arc_words text.now) }
 {
     let (word, rest) = cut_word(text);
     let Some(second) = arc_value(word) else {
@@ -85,7 +88,7 @@ fn second_number(first: u64, text: &[u8]) -> Result<(u32, Option<&[u8]>), OidFau
 }
 
 fn push_later_numbers(out: &mut Vec<u8>, text: Option<&[u8]>) -> Result<(), OidFault>
-    ensures { PushesNumbers out.old.items out.new.items (reading.later_numbers (reading.words_of (option_map (λ r. r.now) text.entry))) result }
+    ensures { PushesNumbers out.old.items out.new.items (reading.later_numbers (steps.words_of (option_map (λ r. r.now) text.entry))) result }
 {
     let mut rest = text;
     while let Some(text) = rest {
@@ -110,7 +113,7 @@ fn arc_number(word: &[u8]) -> Result<u32, OidFault>
 
 /// The bytes up to the first dot, and what follows it.
 fn cut_word(text: &[u8]) -> (&[u8], Option<&[u8]>)
-    ensures words { reading.arc_words text.now ≡ result.0.now ∷ reading.words_of (option_map (λ r. r.now) result.1) }
+    ensures words { reading.arc_words text.now ≡ result.0.now ∷ steps.words_of (option_map (λ r. r.now) result.1) }
     ensures shorter { IfSome result.1 (λ rest. length rest.now < length text.now) }
 {
     for (at, byte) in text.iter().enumerate() {

@@ -1,9 +1,9 @@
 //! The tree of a requirement, one variant for each opcode of the language.
 
-use line_text::Bytes;
 use crate::hash::Hash20;
 use crate::matching::Match;
 use crate::oid::Oid;
+use line_text::Bytes;
 
 /// A requirement. A `slot` names a certificate of the chain: 0 is the leaf, -1 the anchor.
 #[derive(PartialEq, Eq)]

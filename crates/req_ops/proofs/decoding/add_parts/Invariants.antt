@@ -1,4 +1,4 @@
-use Rattle.req_ops.specs.Sets.{HasRead}
+use Rattle.req_ops.specs.Steps.{HasRead}
 use Rattle.req_ops.proofs.decoding.add_parts.Given as goal
 
 abbrev pub invariant-loop-index : goal.invariant-loop-index

@@ -1,4 +1,4 @@
-use Rattle.req_ops.specs.SetEncoding.{IsDraftTo}
+use Rattle.req_ops.specs.Steps.{IsDraftTo}
 use Rattle.req_ops.proofs.encoding.add_kinds.Given as goal
 
 abbrev pub invariant-loop-kind : goal.invariant-loop-kind

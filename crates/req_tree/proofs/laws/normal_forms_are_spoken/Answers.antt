@@ -1,4 +1,4 @@
-use Rattle.req_tree.proofs.NormalLemmas.{normal_spoken}
+use Rattle.req_tree.proofs.NormalForms.{normal_spoken}
 use Rattle.req_tree.proofs.laws.normal_forms_are_spoken.Goals as goal
 
 pub returns : goal.returns

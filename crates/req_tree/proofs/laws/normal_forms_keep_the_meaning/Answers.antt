@@ -1,5 +1,6 @@
-use Rattle.req_tree.proofs.NormalLemmas.{normal_mean}
+use Rattle.req_tree.specs.Facts.{known_of}
+use Rattle.req_tree.proofs.NormalForms.{normal_means}
 use Rattle.req_tree.proofs.laws.normal_forms_keep_the_meaning.Goals as goal
 
 pub returns : goal.returns
-returns c = normal_mean
+returns c = λ tree subject facts. normal_means tree subject (known_of facts subject.cdhash)

@@ -1,4 +1,4 @@
-use Rattle.req_tree.proofs.NormalLemmas.{normal_again}
+use Rattle.req_tree.proofs.NormalForms.{normal_again}
 use Rattle.req_tree.proofs.laws.spoken_trees_are_normal.Goals as goal
 
 pub returns : goal.returns

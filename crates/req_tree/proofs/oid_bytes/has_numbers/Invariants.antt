@@ -1,5 +1,6 @@
 use Rattle.std.proofs.Common.{length}
-use Rattle.req_tree.specs.Oid.{HasNumbers, IsBytes}
+use Rattle.req_tree.specs.Oid.{IsBytes}
+use Rattle.req_tree.specs.Steps.{HasNumbers}
 use Rattle.req_tree.proofs.oid_bytes.has_numbers.Given as goal
 
 abbrev pub invariant-loop-after : goal.invariant-loop-after

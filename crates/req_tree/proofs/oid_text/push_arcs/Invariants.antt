@@ -1,7 +1,7 @@
 use Rattle.std.proofs.Common.{◌≡◌, ◌++◌, ℕ, List, length}
 use Rattle.std.specs.List.{flat_map}
 use Rattle.req_tree.specs.Oid.{WriteNumbers}
-use Rattle.req_tree.specs.OidReading.{dotted_arc}
+use Rattle.req_tree.specs.Steps.{dotted_arc}
 use Rattle.req_tree.proofs.oid_text.push_arcs.Given as goal
 
 abbrev pub invariant-loop-number : goal.invariant-loop-number
