@@ -61,5 +61,6 @@ opcode_at first number =
     (if number == 23 then o.Leaf l.LegacyDevId else
     unknown_of first)))))))))))))))))))))))
 
+-- what an opcode's word is, flags and all
 unfoldable pub opcode_of : ℕ → Opcode
 opcode_of first = opcode_at first (first % 2 ^ 24)

@@ -32,6 +32,7 @@ Gives view (Err e) read = e ≢ fault.OutOfMemory → read ≡ Err e
 abbrev pub place : ℕ → List ℕ → ℕ
 place size rest = size - length rest
 
+-- four bytes, the highest first
 unfoldable pub word_at : ℕ → List ℕ → Result (ℕ × List ℕ) OpsFault
 word_at size bytes = if nat_lt (length bytes) 4 then Err (fault.Cut (place size bytes)) else Ok (from_be_bytes w32 (take 4 bytes), drop 4 bytes)
 
@@ -47,6 +48,7 @@ padded_at at count rest =
     if nat_lt (length rest) (count + padding count) then Err (fault.Cut at)
     else (if list_all (λ b. b == 0) (take (padding count) (drop count rest)) then Ok (take count rest, drop (padding count) (drop count rest)) else Err (fault.BadPadding at))
 
+-- a length, that many bytes, and the zeros that fill them up
 unfoldable pub datum_at : ℕ → List ℕ → Result (List ℕ × List ℕ) OpsFault
 datum_at size bytes = do
   n ← word_at size bytes
