@@ -2,16 +2,7 @@
 use std::alloc::Global;
 use std::sync::Wait;
 use std::thread::Threads;
-use turn_lock::Closed;
-use turn_lock::counter::{Counter, bump_times};
-use turn_lock::counting::{count_of_two, in_four};
-
-fn counted(closed: Closed<Counter>) -> Option<u64> {
-    match closed {
-        Closed::Whole(counter) => Some(counter.count),
-        Closed::Stuck { .. } => None,
-    }
-}
+use turn_count::{Counter, bump_times, count_of_four, count_of_two, counted};
 
 fn count_of_one<R: Wait>(rt: &R, alloc: Global, times: u64) -> Option<u64> {
     let (lock, mut seat) = Counter::locked(alloc).ok()?;
@@ -19,20 +10,6 @@ fn count_of_one<R: Wait>(rt: &R, alloc: Global, times: u64) -> Option<u64> {
         return None;
     }
     counted(lock.close(seat))
-}
-
-fn count_of_four<R: Threads + Wait + Sync>(rt: &R, alloc: Global, times: u64) -> Option<u64> {
-    let (lock, mut one) = Counter::locked(alloc).ok()?;
-    let mut two = lock.split(&mut one);
-    let mut three = lock.split(&mut one);
-    let mut four = lock.split(&mut two);
-    if !in_four(rt, &lock, &mut one, &mut two, &mut three, &mut four, times) {
-        return None;
-    }
-    lock.join(&mut one, two);
-    lock.join(&mut three, four);
-    lock.join(&mut one, three);
-    counted(lock.close(one))
 }
 
 /// The count of one, two or four threads; none if memory or the tickets run out.

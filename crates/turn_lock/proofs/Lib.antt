@@ -1,5 +1,8 @@
-pub mod ListLemmas
-pub mod StepLemmas
-pub mod SeatLemmas
-pub mod TurnLemmas
-pub mod CountLemmas
+pub mod ChangedViews
+pub mod Histories
+pub mod Numbers
+pub mod Tickets
+pub mod StepsKeepTheRule
+pub mod SplitsAndJoins
+pub mod AtTheEnd
+pub mod AfterACall

@@ -4,4 +4,3 @@ pub mod Rule
 pub mod Steps
 pub mod Seats
 pub mod Lends
-pub mod Counts

@@ -1,10 +1,11 @@
 -- The rule of the lock, which holds between any two steps: of the words `next` and `serving`, of the slot, and of the views of all seats. This project's own.
 -- A view that a join has left behind is excepted.
-use Rattle.std.specs.Prelude.{◌≡◌, ◌≢◌, ◌⊎◌, ℕ, suc, ◌<◌, ◌≤◌, ◌^◌, true, false, List, [], ◌∷◌, length, Option, Some}
+use Rattle.std.specs.Prelude.{◌≡◌, ◌≢◌, ◌⊎◌, ℕ, suc, ◌<◌, ◌≤◌, true, false, List, [], ◌∷◌, length, Option, Some}
 use mathlib.Core.List.{IsPrefix}
 use mathlib.Core.Option.{some, none}
 use lib.ListN.{get_elem?}
 use Rattle.atomic_table.specs.Table.{State}
+use Rattle.turn_lock.specs.declared.lock.TheConstants.{TICKETS}
 use Rattle.turn_lock.specs.declared.logged.Turn.{Turn}
 use Rattle.turn_lock.specs.declared.logged.Kept.{Kept}
 use Rattle.turn_lock.specs.declared.logged.View.{View}
@@ -40,7 +41,7 @@ module _ {O E : Type 0} where
     pub fresh : (a : ℕ) → turns_of (number_at v (suc a)) h ≡ []
     pub kept : (k : ℕ) (x : Kept E) → get_elem? v.kept k ≡ some x → KeptOk v.seen h x
     pub clear : (k : ℕ) (x : Kept E) → get_elem? v.kept k ≡ some x → (a b : ℕ) → kept_at x a ≢ number_at v b
-    pub over : 0 < v.spent → 2 ^ 63 ≤ next
+    pub over : 0 < v.spent → TICKETS ≤ next
 
   -- no two of the seats that are not left behind have a number in common
   abbrev pub AllApart : List (View O E) → Type 0
@@ -61,6 +62,7 @@ module _ {O E : Type 0} where
     abbrev pub Placed : O → List (Turn E) → State (Option S) (View O E) → Type 0
     Placed o h s = ((x : S) × (s.homes ≡ some (Some x) ∷ []) × stands x o h) ⊎ ((s.homes ≡ none ∷ []) × ((by : ℕ) × SomeAt s.views by (λ v. v.holds ≡ true)))
 
+    -- some turns, or none, were taken since the first seat was told the origin
     pub record Born (s : State (Option S) (View O E)) : Type 0 where
       pub origin : O
       pub next : ℕ
@@ -70,7 +72,7 @@ module _ {O E : Type 0} where
       pub owner : ℕ → ℕ
       pub words : s.words ≡ next ∷ serving ∷ []
       pub order : serving ≤ next
-      pub low : next ≤ 2 ^ 63
+      pub low : next ≤ TICKETS
       pub served : length history ≡ serving
       pub each : (by : ℕ) (v : View O E) → get_elem? s.views by ≡ some v → v.gone ≡ false → Live origin next serving history owner by v
       pub apart : AllApart s.views
@@ -82,5 +84,6 @@ module _ {O E : Type 0} where
       pub latest : (by : ℕ) × SomeAt s.views by (λ v. v.seen ≡ history)
       pub slot : Placed origin history s
 
+    -- the rule
     abbrev pub Ruled : S → State (Option S) (View O E) → Type 0
     Ruled value s = Unborn value s ⊎ Born s

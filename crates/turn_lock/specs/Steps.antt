@@ -1,7 +1,8 @@
 -- What each kind of step tells the seat that makes it: of its view and slots before, of the number found, and of its view and slots after. This project's own.
-use Rattle.std.specs.Prelude.{◌≡◌, ◌≢◌, ℕ, ◌<◌, ◌≤◌, ◌^◌, true, false, List, [], ◌∷◌, length, Option, Some}
+use Rattle.std.specs.Prelude.{◌≡◌, ◌≢◌, ℕ, ◌<◌, ◌≤◌, true, false, List, [], ◌∷◌, length, Option, Some}
 use mathlib.Core.List.{IsPrefix}
 use Rattle.atomic_table.specs.Table.{Step, Me}
+use Rattle.turn_lock.specs.declared.lock.TheConstants.{TICKETS}
 use Rattle.turn_lock.specs.declared.logged.Turn.{Turn}
 use Rattle.turn_lock.specs.declared.logged.View.{View}
 use Rattle.turn_lock.specs.Turns.{turns_of}
@@ -18,7 +19,7 @@ module _ {S O E : Type 0} where
 
   -- a load of `next`: where no ticket is left, the seat notes that it found so
   abbrev pub Looked : Step (Option S) → Me (Option S) (View O E) → ℕ → Me (Option S) (View O E) → Type 0
-  Looked s v found w = (2 ^ 63 ≤ found → w ≡ (refused v.0, v.1)) × (found < 2 ^ 63 → w ≡ v)
+  Looked s v found w = (TICKETS ≤ found → w ≡ (refused v.0, v.1)) × (found < TICKETS → w ≡ v)
 
   -- a draw: the ticket, where `next` was as expected
   abbrev pub Drew : Step (Option S) → Me (Option S) (View O E) → ℕ → Me (Option S) (View O E) → Type 0

@@ -1,8 +1,9 @@
 -- What a seat knows, and how a turn, a split and a join change it. This project's own.
-use Rattle.std.specs.Prelude.{◌≡◌, ◌⊎◌, ℕ, ◌+◌, ◌*◌, ◌^◌, ◌<◌, ◌≤◌, length, true, false, List, [], ◌∷◌, ◌++◌, Some, None}
+use Rattle.std.specs.Prelude.{◌≡◌, ◌⊎◌, ℕ, ◌+◌, ◌*◌, ◌<◌, ◌≤◌, length, true, false, List, [], ◌∷◌, ◌++◌, Some, None}
 use mathlib.Core.List.{IsPrefix}
 use mathlib.Core.Option.{some}
 use lib.ListN.{get_elem?}
+use Rattle.turn_lock.specs.declared.lock.TheConstants.{TICKETS}
 use Rattle.turn_lock.specs.declared.logged.Turn.{Turn}
 use Rattle.turn_lock.specs.declared.logged.Kept.{Kept}
 use Rattle.turn_lock.specs.declared.logged.View.{View}
@@ -60,9 +61,9 @@ module _ {O E : Type 0} where
     pub own : turns_of v.number h ≡ v.own
     pub kept : (k : ℕ) (x : Kept E) → get_elem? v.kept k ≡ some x → turns_of x.number h ≡ x.turns
     pub all : HasAll v → (k : ℕ) (t : Turn E) → get_elem? h k ≡ some t → IsOf t.by v
-    -- there are 2 ^ 63 tickets, and one that was refused came after them
-    pub within : length h ≤ 2 ^ 63
-    pub over : 0 < v.spent → 2 ^ 63 ≤ length h
+    -- there are so many tickets, and one that was refused came after them
+    pub within : length h ≤ TICKETS
+    pub over : 0 < v.spent → TICKETS ≤ length h
 
   -- the seat's turn with these events
   abbrev pub turn_of : View O E → List E → Turn E

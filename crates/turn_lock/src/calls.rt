@@ -1,16 +1,16 @@
 //! How a lock is made, how seats are split and joined, and how it is closed.
-ghost use Rattle.std.specs.Prelude.{◌≡◌, ℕ, ◌<◌, ◌≤◌, ◌^◌, ◌⊎◌, [], ◌∷◌, ◌++◌, length, IfOk, IfErr, Some, None};
+ghost use Rattle.std.specs.Prelude.{◌≡◌, ℕ, ◌<◌, ◌≤◌, ◌⊎◌, List, [], ◌∷◌, ◌++◌, length, IfOk, IfErr, Some, None};
+ghost use Rattle.std.specs.Mem.Slots.{slots_items};
 ghost use mathlib.Core.List.{IsPrefix};
 ghost use Rattle.turn_lock.specs.declared.closed.Closed.TheVariants.{Whole, Stuck};
-ghost use Rattle.turn_lock.specs.declared.logged.Turn.{Turn};
-ghost use Rattle.std.specs.Prelude.{List};
+ghost use Rattle.turn_lock.specs.declared.lock.TheConstants.{TICKETS};
 ghost use Rattle.turn_lock.specs.Views.{Has, HasAll, Tallies, blank, both_of, left_of, newborn, right_of};
-ghost use Rattle.turn_lock.specs.Seats.{IsReady, IsWhole, Knows, known};
+ghost use Rattle.turn_lock.specs.Seats.{IsReady, IsStopped, IsWhole, Knows, known};
 
-use crate::closed::Closed;
+use crate::closed::{Closed, Shut};
 use crate::lock::TurnLock;
 use crate::logged::Logged;
-use crate::plays::{Board, Place};
+use crate::rule::{Board, Place};
 use crate::seat::Seat;
 use crate::steps::begin;
 use atomic_table::{Badge, Refused, Table};
@@ -37,10 +37,8 @@ fn row<T>(alloc: Global, value: T) -> Result<Vec<Option<T>>, AllocFailed<T>>
 }
 
 fn laid<T: Logged>(alloc: Global, value: T) -> Result<(Board<T>, Place<T>), AllocFailed<T>>
-    ensures words { IfOk result (λ r. r.0.shared.table_id.words ≡ 2) }
-    ensures slots { IfOk result (λ r. r.0.shared.table_id.slots ≡ 1) }
-    ensures seat { IfOk result (λ r. (r.1.table_id ≡ r.0.shared.table_id) × (r.1.me ≡ (blank, []))) }
-    ensures value { IfOk result (λ r. r.0.shared.key.value ≡ value) }
+    ensures ok { IfOk result (λ r. (r.0.shared.table_id.words ≡ 2) × (r.0.shared.table_id.slots ≡ 1)
+        × (r.1.table_id ≡ r.0.shared.table_id) × (r.1.me ≡ (blank, [])) × (r.0.shared.key.value ≡ value)) }
     ensures err { IfErr result (λ failed. failed.value ≡ value) }
 {
     let about = Snapshot::of(&value);
@@ -58,7 +56,7 @@ fn laid<T: Logged>(alloc: Global, value: T) -> Result<(Board<T>, Place<T>), Allo
 }
 
 impl<T: Logged> TurnLock<T> {
-    /// A lock over the value, and its first seat. At want of memory the value comes back.
+    /// A lock over the value, and its first seat. If memory runs out, the value comes back.
     pub fn new(
         alloc: Global,
         value: T,
@@ -76,7 +74,7 @@ impl<T: Logged> TurnLock<T> {
     }
 
     /// A second seat, which has seen as much and has no turns of its own.
-    #[tactic(auto, using(crate::proofs::TurnLemmas::ready))]
+    #[tactic(auto, using(crate::proofs::AfterACall::ready))]
     pub fn split(&self, seat: &mut Seat<T::Origin, T::Event>) -> Seat<T::Origin, T::Event>
         requires ready { IsReady seat.old self.now }
         ensures ready { IsReady seat.new self.now × IsReady result self.now }
@@ -96,7 +94,7 @@ impl<T: Logged> TurnLock<T> {
 
     /// The seat takes in another: it has then seen what both had seen, and keeps the other's
     /// turns beside its own.
-    #[tactic(auto, using(crate::proofs::TurnLemmas::ready))]
+    #[tactic(auto, using(crate::proofs::AfterACall::ready))]
     pub fn join(&self, seat: &mut Seat<T::Origin, T::Event>, other: Seat<T::Origin, T::Event>)
         requires ready { IsReady seat.old self.now × IsReady other self.now }
         ensures ready { IsReady seat.new self.now }
@@ -113,17 +111,27 @@ impl<T: Logged> TurnLock<T> {
         seat.badge = place.into_badge();
     }
 
-    /// The value, if every ticket that was drawn was served. The numbers of `Stuck` are what the
-    /// words `next` and `serving` had; no clause of this call can name them.
+    /// Stops the lock: no step is made at it any more.
+    pub fn shut(self, seat: Seat<T::Origin, T::Event>) -> Shut<T>
+        requires ready { IsReady seat self }
+        ensures { IsStopped T.stands (known seat) (slots_items result.table.words) (slots_items result.table.slots) }
+    {
+        let TurnLock { table } = self;
+        let table = table.close_with(seat.into_badge().into_seat::<Option<T>>());
+        Shut { table }
+    }
+
+    /// The value, if every ticket that was drawn was served. `shut` and then `ends` say exactly when
+    /// a lock is stuck, and with which numbers.
     pub fn close(self, seat: Seat<T::Origin, T::Event>) -> Closed<T>
     where
         T: Drop,
         requires ready { IsReady seat self }
         ensures whole { (x : T) → result ≡ Whole x → IsWhole T.stands (known seat) x }
         ensures stuck { (n s : ℕ) → result ≡ Stuck n s
-            → (length (known seat).seen ≤ s) × (s < n) × (n ≤ 2 ^ 63) }
+            → (length (known seat).seen ≤ s) × (s < n) × (n ≤ TICKETS) }
         ensures alone { HasAll (known seat) → (x : T) × (result ≡ Whole x) }
     {
-        self.stop(seat.into_badge().into_seat::<Option<T>>())
+        self.shut(seat).ends()
     }
 }

@@ -1,19 +1,15 @@
 //! A turn, from its beginning to its end.
-ghost use Rattle.std.specs.Prelude.{◌≡◌, [], ◌∷◌, ◌++◌, Some, IfOk};
-ghost use Rattle.std.specs.Borrow.{sem, RestsIfErr};
-ghost use Rattle.turn_lock.specs.contracts.seat.Seat.{the_row};
+ghost use Rattle.std.specs.Prelude.{◌≡◌};
+ghost use Rattle.std.specs.Borrow.{sem};
 ghost use Rattle.turn_lock.specs.declared.logged.View.{View};
-ghost use Rattle.turn_lock.specs.Views.{Rests, Tallies, after, refused, turn_of};
-ghost use Rattle.turn_lock.specs.Seats.{HasBegun, IsOut, IsReady, IsRefused, Knows, MayEnd, Turned, known};
+ghost use Rattle.turn_lock.specs.Views.{Rests, Tallies, after};
+ghost use Rattle.turn_lock.specs.Seats.{HasBegun, IsOut, IsReady, Knows, MayEnd, Turned, known};
 ghost use Rattle.turn_lock.specs.Lends.{LendsValue};
 
-use crate::fault::Spent;
 use crate::lock::TurnLock;
 use crate::logged::{Logged, Names};
-use crate::plays::Place;
+use crate::rule::Place;
 use crate::seat::Seat;
-use crate::waiting::take_turn;
-use std::sync::Wait;
 
 /// A turn, with the value in hand. If it is dropped, no other seat has a turn ever after, and the
 /// lock can only be closed as stuck.
@@ -25,29 +21,8 @@ pub struct Held<'a, T: Logged> {
     pub value: T,
 }
 
-impl<O, E> Seat<O, E> {
-    /// Waits for the seat's turn. `Spent` comes exactly where a load of this call found no ticket
-    /// left: the seat then knows of one more such load, and at a turn of none.
-    pub fn turn<'a, R: Wait, T: Logged<Origin = O, Event = E>>(
-        &'a mut self,
-        rt: &R,
-        lock: &'a TurnLock<T>,
-    ) -> Result<Held<'a, T>, Spent>
-        requires ready { IsReady self.old lock.now }
-        ensures* refused { sem 𝓛 (RestsIfErr (the_row O.row E.row) self.entry (λ held. held.seat.ghost_name)
-            result (λ last. IsRefused (known self.old) last lock.now)) }
-        ensures same_reference { IfOk result (λ held. held.seat.ghost_name ≡ self.entry.ghost_name) }
-        ensures lock { IfOk result (λ held. held.lock.now ≡ lock.now) }
-        ensures out { IfOk result (λ held. IsOut held.inner lock.now) }
-        ensures begun { IfOk result (λ held. HasBegun T.stands (known self.old) held.inner.me.0 held.value) }
-    {
-        let (inner, value) = take_turn(self, rt, lock)?;
-        Ok(Held::new(lock, self, inner, value))
-    }
-}
-
 impl<'a, T: Logged> Held<'a, T> {
-    fn new(
+    pub(crate) fn new(
         lock: &'a TurnLock<T>,
         seat: &'a mut Seat<T::Origin, T::Event>,
         inner: Place<T>,
@@ -55,7 +30,7 @@ impl<'a, T: Logged> Held<'a, T> {
     ) -> Held<'a, T>
         ensures same_reference { result.seat.ghost_name ≡ seat.entry.ghost_name }
         ensures lock { result.lock.now ≡ lock.now }
-        ensures same { (result.inner ≡ inner) × (result.value ≡ value) }
+        ensures same { (result.seat.now ≡ seat.old) × (result.inner ≡ inner) × (result.value ≡ value) }
     {
         Held {
             lock,
@@ -73,7 +48,7 @@ impl<'a, T: Logged> Held<'a, T> {
     }
 
     /// Puts the value back, and ends the turn with the events that the call names.
-    #[tactic(auto, using(crate::proofs::TurnLemmas::ready, crate::proofs::TurnLemmas::tallies_known, crate::proofs::TurnLemmas::turned))]
+    #[tactic(auto, using(crate::proofs::AfterACall::ready, crate::proofs::AfterACall::tallies_known, crate::proofs::AfterACall::turned))]
     pub fn end<N: Names<T::Event>>(self)
         requires out { IsOut self.inner self.lock.now }
         requires stands { MayEnd T.stands self.inner.me.0 N.events self.value }
@@ -84,7 +59,7 @@ impl<'a, T: Logged> Held<'a, T> {
         // From the seat's view before the turn to the one after it.
         ensures turned { (v : View T.Origin T.Event) (x : T) → Rests v
             → HasBegun T.stands v self.entry.inner.me.0 x
-            → Turned v (known self.exit.1.0.now) N.events }
+            → Turned v (known self.exit.1.0.now) N.events self.entry.inner.me.0.seen }
     {
         let Held {
             lock,

@@ -3,23 +3,20 @@
 
 mod calls;
 pub mod closed;
-pub mod counter;
-pub mod counting;
 pub mod fault;
 pub mod held;
 pub mod lock;
 pub mod logged;
-pub mod plays;
+pub mod rule;
 pub mod seat;
-pub mod sharing;
 mod steps;
-#[cfg(test)]
-mod tests;
 mod waiting;
+pub mod work;
 
-pub use closed::Closed;
-pub use fault::{CountFault, Spent};
+pub use closed::{Closed, Shut};
+pub use fault::Spent;
 pub use held::Held;
-pub use lock::TurnLock;
+pub use lock::{TICKETS, TurnLock};
 pub use logged::{Kept, Logged, Names, Origins, Turn, View};
 pub use seat::Seat;
+pub use work::{Work, with_turn};

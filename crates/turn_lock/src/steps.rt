@@ -1,15 +1,13 @@
 //! The lock's steps: each is one atomic step on a word, or one exchange of the slot.
-ghost use Rattle.std.specs.Prelude.{◌≡◌, ◌≢◌, ℕ, ◌<◌, ◌≤◌, ◌^◌, List, [], ◌∷◌, ◌++◌, length, Some, None, true, false};
-ghost use Rattle.turn_lock.specs.declared.closed.Closed.TheVariants.{Whole, Stuck};
-ghost use Rattle.turn_lock.specs.declared.logged.Turn.{Turn};
-ghost use Rattle.turn_lock.specs.Views.{HasAll, Rests, Tallies, Waits, after, blank, both_of, left_of, refused, right_of};
-ghost use Rattle.turn_lock.specs.Seats.{IsWhole, MayEnd};
+ghost use Rattle.std.specs.Prelude.{◌≡◌, ◌≢◌, ◌<◌, ◌≤◌, List, [], ◌∷◌, ◌++◌, Some, None, true, false};
+ghost use Rattle.turn_lock.specs.declared.lock.TheConstants.{TICKETS};
+ghost use Rattle.turn_lock.specs.Views.{Rests, Tallies, Waits, after, blank, both_of, left_of, refused, right_of};
+ghost use Rattle.turn_lock.specs.Seats.{MayEnd};
 ghost use Rattle.turn_lock.specs.Steps.{Takes};
 
-use crate::closed::Closed;
 use crate::lock::TurnLock;
 use crate::logged::{Logged, Names, Origins};
-use crate::plays::{Begin, Board, Both, Draw, End, Halves, Learn, Look, Place, See};
+use crate::rule::{Begin, Board, Both, Draw, End, Halves, Learn, Look, Place, See};
 use std::sync::Wait;
 
 const NEXT: usize = 0;
@@ -31,7 +29,7 @@ impl<T: Logged> TurnLock<T> {
     pub(crate) fn learn(&self, seat: &mut Place<T>)
         requires same { seat.old.table_id ≡ self.now.table.shared.table_id }
         requires live { (o : T.Origin) × (seat.old.me.0.origin ≡ Some o) × (seat.old.me.0.gone ≡ false) }
-        ensures id { (seat.new.table_id ≡ seat.old.table_id) × (seat.new.id ≡ seat.old.id) }
+        ensures same { seat.new.table_id ≡ seat.old.table_id }
         ensures me { seat.new.me ≡ seat.old.me }
         ensures tallies { Tallies seat.old.me.0 }
     {
@@ -41,9 +39,9 @@ impl<T: Logged> TurnLock<T> {
     pub(crate) fn look(&self, seat: &mut Place<T>) -> u64
         requires same { seat.old.table_id ≡ self.now.table.shared.table_id }
         requires live { (o : T.Origin) × (seat.old.me.0.origin ≡ Some o) × (seat.old.me.0.gone ≡ false) }
-        ensures id { (seat.new.table_id ≡ seat.old.table_id) × (seat.new.id ≡ seat.old.id) }
-        ensures spent { 2 ^ 63 ≤ result → seat.new.me ≡ (refused seat.old.me.0, seat.old.me.1) }
-        ensures room { result < 2 ^ 63 → seat.new.me ≡ seat.old.me }
+        ensures same { seat.new.table_id ≡ seat.old.table_id }
+        ensures spent { TICKETS ≤ result → seat.new.me ≡ (refused seat.old.me.0, seat.old.me.1) }
+        ensures room { result < TICKETS → seat.new.me ≡ seat.old.me }
     {
         self.table.shared.load::<Look>(seat, NEXT)
     }
@@ -52,8 +50,8 @@ impl<T: Logged> TurnLock<T> {
         requires same { seat.old.table_id ≡ self.now.table.shared.table_id }
         requires live { (o : T.Origin) × (seat.old.me.0.origin ≡ Some o) }
         requires rests { Rests seat.old.me.0 }
-        requires room { next < 2 ^ 63 }
-        ensures id { (seat.new.table_id ≡ seat.old.table_id) × (seat.new.id ≡ seat.old.id) }
+        requires room { next < TICKETS }
+        ensures same { seat.new.table_id ≡ seat.old.table_id }
         ensures won { result ≡ next
             → seat.new.me ≡ (record seat.old.me.0 { tickets = next ∷ [] }, seat.old.me.1) }
         ensures lost { result ≢ next → seat.new.me ≡ seat.old.me }
@@ -72,7 +70,7 @@ impl<T: Logged> TurnLock<T> {
         requires same { seat.old.table_id ≡ self.now.table.shared.table_id }
         requires live { (o : T.Origin) × (seat.old.me.0.origin ≡ Some o) }
         requires waits { Waits seat.old.me.0 ticket × (seat.old.me.1 ≡ []) }
-        ensures id { (seat.new.table_id ≡ seat.old.table_id) × (seat.new.id ≡ seat.old.id) }
+        ensures same { seat.new.table_id ≡ seat.old.table_id }
         ensures served { result ≡ ticket → Takes T.stands seat.old.me result seat.new.me }
         ensures waits { result ≢ ticket → seat.new.me ≡ seat.old.me }
     {
@@ -90,7 +88,7 @@ impl<T: Logged> TurnLock<T> {
     pub(crate) fn take_out(&self, seat: &mut Place<T>) -> T
         requires same { seat.old.table_id ≡ self.now.table.shared.table_id }
         requires full { (x : T) × (seat.old.me.1 ≡ (0, Some x) ∷ []) }
-        ensures id { (seat.new.table_id ≡ seat.old.table_id) × (seat.new.id ≡ seat.old.id) }
+        ensures same { seat.new.table_id ≡ seat.old.table_id }
         ensures me { seat.new.me ≡ (seat.old.me.0, (0, None) ∷ []) }
         ensures value { seat.old.me.1 ≡ (0, Some result) ∷ [] }
     {
@@ -103,20 +101,20 @@ impl<T: Logged> TurnLock<T> {
     pub(crate) fn give(&self, seat: &mut Place<T>, value: T)
         requires same { seat.old.table_id ≡ self.now.table.shared.table_id }
         requires empty { seat.old.me.1 ≡ (0, None) ∷ [] }
-        ensures id { (seat.new.table_id ≡ seat.old.table_id) × (seat.new.id ≡ seat.old.id) }
+        ensures same { seat.new.table_id ≡ seat.old.table_id }
         ensures me { seat.new.me ≡ (seat.old.me.0, (0, Some value) ∷ []) }
     {
         let old = self.table.shared.exchange(seat, 0, Some(value));
         let None = old else { unreachable!() };
     }
 
-    /// Answers the ticket that was served.
+    /// Returns the ticket that was served.
     pub(crate) fn end<N: Names<T::Event>>(&self, seat: &mut Place<T>) -> u64
         requires same { seat.old.table_id ≡ self.now.table.shared.table_id }
         requires holds { (seat.old.me.0.gone ≡ false) × (seat.old.me.0.holds ≡ true) }
         requires value { (x : T) × (seat.old.me.1 ≡ (0, Some x) ∷ [])
             × MayEnd T.stands seat.old.me.0 N.events x }
-        ensures id { (seat.new.table_id ≡ seat.old.table_id) × (seat.new.id ≡ seat.old.id) }
+        ensures same { seat.new.table_id ≡ seat.old.table_id }
         ensures me { seat.new.me ≡ (after seat.old.me.0 N.events, []) }
         ensures tallies { Tallies seat.new.me.0 }
     {
@@ -134,8 +132,7 @@ impl<T: Logged> TurnLock<T> {
         requires same { seat.old.table_id ≡ self.now.table.shared.table_id }
         requires live { (o : T.Origin) × (seat.old.me.0.origin ≡ Some o) }
         requires rests { Rests seat.old.me.0 }
-        ensures id { (seat.new.table_id ≡ seat.old.table_id) × (seat.new.id ≡ seat.old.id) }
-        ensures same { result.table_id ≡ seat.old.table_id }
+        ensures same { (seat.new.table_id ≡ seat.old.table_id) × (result.table_id ≡ seat.old.table_id) }
         ensures old { seat.new.me ≡ (left_of seat.old.me.0, seat.old.me.1) }
         ensures new { result.me ≡ (right_of seat.old.me.0, []) }
     {
@@ -148,29 +145,9 @@ impl<T: Logged> TurnLock<T> {
         requires live { (o : T.Origin) × (seat.old.me.0.origin ≡ Some o) }
         requires other { (o : T.Origin) × (other.me.0.origin ≡ Some o) × (other.me.1 ≡ []) }
         requires rests { Rests seat.old.me.0 × Rests other.me.0 }
-        ensures id { (seat.new.table_id ≡ seat.old.table_id) × (seat.new.id ≡ seat.old.id) }
+        ensures same { seat.new.table_id ≡ seat.old.table_id }
         ensures me { seat.new.me ≡ (both_of seat.old.me.0 other.me.0, seat.old.me.1) }
     {
         self.table.shared.join_seat::<Both>(seat, other)
-    }
-
-    pub(crate) fn stop(self, seat: Place<T>) -> Closed<T>
-    where
-        T: Drop,
-        requires same { seat.table_id ≡ self.table.shared.table_id }
-        requires live { (o : T.Origin) × (seat.me.0.origin ≡ Some o) }
-        requires rests { Rests seat.me.0 }
-        ensures whole { (x : T) → result ≡ Whole x → IsWhole T.stands seat.me.0 x }
-        ensures stuck { (n s : ℕ) → result ≡ Stuck n s
-            → (length seat.me.0.seen ≤ s) × (s < n) × (n ≤ 2 ^ 63) }
-        ensures alone { HasAll seat.me.0 → (x : T) × (result ≡ Whole x) }
-    {
-        let TurnLock { table } = self;
-        let mut closed = table.close_with(seat);
-        let next = closed.word(NEXT);
-        let serving = closed.word(SERVING);
-        let slot = closed.take(0);
-        closed.free();
-        Closed::of(next, serving, slot)
     }
 }

@@ -2,19 +2,17 @@
 ghost use Rattle.std.specs.Prelude.{◌≡◌, ◌<◌, ◌^◌, [], ◌∷◌, Some, IfOk, OnErr, false};
 ghost use Rattle.turn_lock.specs.Views.{Rests, Waits, refused};
 ghost use Rattle.turn_lock.specs.Steps.{Takes};
-ghost use Rattle.turn_lock.specs.Seats.{HasBegun, IsOut, IsReady, IsRefused, known};
+ghost use Rattle.turn_lock.specs.Seats.{HasBegun, IsLent, IsOut, IsReady, IsRefused, known};
 
 use crate::fault::Spent;
-use crate::lock::TurnLock;
+use crate::lock::{TICKETS, TurnLock};
 use crate::logged::Logged;
-use crate::plays::Place;
+use crate::rule::Place;
 use crate::seat::Seat;
 use atomic_table::Badge;
 use crossbeam_utils::Backoff;
 use std::mem;
 use std::sync::Wait;
-
-const TICKETS: u64 = 1 << 63;
 
 // A seat that finds the lock taken gives it some time before it stands in line, since whoever
 // stands in line may sleep, and then the turns of all others wait for it to wake.
@@ -26,7 +24,7 @@ pub(crate) fn draw<R: Wait, T: Logged>(
     requires same { place.old.table_id ≡ lock.now.table.shared.table_id }
     requires live { (o : T.Origin) × (place.old.me.0.origin ≡ Some o) }
     requires rests { Rests place.old.me.0 }
-    ensures id { (place.new.table_id ≡ place.old.table_id) × (place.new.id ≡ place.old.id) }
+    ensures same { place.new.table_id ≡ place.old.table_id }
     ensures drawn { IfOk result
         (λ t. place.new.me ≡ (record place.old.me.0 { tickets = t ∷ [] }, place.old.me.1)) }
     ensures spent { OnErr result (place.new.me ≡ (refused place.old.me.0, place.old.me.1)) }
@@ -57,7 +55,7 @@ pub(crate) fn wait<R: Wait, T: Logged>(
     requires same { place.old.table_id ≡ lock.now.table.shared.table_id }
     requires live { (o : T.Origin) × (place.old.me.0.origin ≡ Some o) }
     requires waits { Waits place.old.me.0 ticket × (place.old.me.1 ≡ []) }
-    ensures id { (place.new.table_id ≡ place.old.table_id) × (place.new.id ≡ place.old.id) }
+    ensures same { place.new.table_id ≡ place.old.table_id }
     ensures takes { Takes T.stands place.old.me ticket place.new.me }
 {
     let backoff = Backoff::new();
@@ -75,7 +73,7 @@ pub(crate) fn wait<R: Wait, T: Logged>(
 }
 
 // Takes a turn, and the value with it. Meanwhile the seat is blank.
-#[tactic(auto, using(crate::proofs::TurnLemmas::ready, crate::proofs::TurnLemmas::tallies_known))]
+#[tactic(auto, using(crate::proofs::AfterACall::ready, crate::proofs::AfterACall::tallies_known))]
 pub(crate) fn take_turn<R: Wait, T: Logged>(
     seat: &mut Seat<T::Origin, T::Event>,
     rt: &R,
@@ -84,7 +82,7 @@ pub(crate) fn take_turn<R: Wait, T: Logged>(
     requires ready { IsReady seat.old lock.now }
     ensures begun { IfOk result (λ r. HasBegun T.stands (known seat.old) r.0.me.0 r.1) }
     ensures out { IfOk result (λ r. IsOut r.0 lock.now) }
-    ensures blank { IfOk result (λ r. seat.new.badge.views ≡ []) }
+    ensures lent { IfOk result (λ r. IsLent seat.new) }
     ensures spent { OnErr result (IsRefused (known seat.old) seat.new lock.now) }
 {
     let badge = mem::replace(&mut seat.badge, Badge::blank());

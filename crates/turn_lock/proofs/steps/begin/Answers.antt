@@ -1,5 +1,5 @@
 use Rattle.std.proofs.Common.{rules}
-use Rattle.turn_lock.proofs.StepLemmas.{births}
+use Rattle.turn_lock.proofs.StepsKeepTheRule.{births}
 use Rattle.turn_lock.proofs.steps.begin.Goals as goal
 
 pub load-requires : goal.load-requires

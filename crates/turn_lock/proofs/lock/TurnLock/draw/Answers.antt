@@ -1,5 +1,5 @@
 use Rattle.std.proofs.Common.{rules}
-use Rattle.turn_lock.proofs.StepLemmas.{draws}
+use Rattle.turn_lock.proofs.StepsKeepTheRule.{draws}
 use Rattle.turn_lock.proofs.lock.TurnLock.draw.Goals as goal
 
 pub compare_exchange-requires : goal.compare_exchange-requires

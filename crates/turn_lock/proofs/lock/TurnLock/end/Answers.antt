@@ -1,5 +1,5 @@
 use Rattle.std.proofs.Common.{rules}
-use Rattle.turn_lock.proofs.StepLemmas.{ends}
+use Rattle.turn_lock.proofs.StepsKeepTheRule.{ends}
 use Rattle.turn_lock.proofs.lock.TurnLock.end.Goals as goal
 
 pub fetch_add-requires : goal.fetch_add-requires

@@ -1,5 +1,5 @@
 use Rattle.std.proofs.Common.{rules}
-use Rattle.turn_lock.proofs.SeatLemmas.{splits}
+use Rattle.turn_lock.proofs.SplitsAndJoins.{splits}
 use Rattle.turn_lock.proofs.lock.TurnLock.halve.Goals as goal
 
 pub split_seat-requires : goal.split_seat-requires

@@ -2,7 +2,7 @@ use Rattle.std.proofs.Common.{rules, ◌≡◌, subst}
 use Rattle.turn_lock.specs.declared.seat.Seat.{Seat}
 use Rattle.turn_lock.specs.Views.{both_of, Tallies}
 use Rattle.turn_lock.specs.Seats.{Knows, known}
-use Rattle.turn_lock.proofs.TurnLemmas.{join_numbers, join_seen, tallies_known}
+use Rattle.turn_lock.proofs.AfterACall.{join_numbers, join_seen, tallies_known}
 use Rattle.turn_lock.proofs.lock.TurnLock.join.Goals as goal
 
 pub returns-clause-seen : goal.returns-clause-seen

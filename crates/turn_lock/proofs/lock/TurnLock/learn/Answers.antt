@@ -1,5 +1,5 @@
 use Rattle.std.proofs.Common.{rules}
-use Rattle.turn_lock.proofs.StepLemmas.{learns}
+use Rattle.turn_lock.proofs.StepsKeepTheRule.{learns}
 use Rattle.turn_lock.proofs.lock.TurnLock.learn.Goals as goal
 
 pub load-requires : goal.load-requires

@@ -1,5 +1,5 @@
 use Rattle.std.proofs.Common.{rules}
-use Rattle.turn_lock.proofs.StepLemmas.{looks}
+use Rattle.turn_lock.proofs.StepsKeepTheRule.{looks}
 use Rattle.turn_lock.proofs.lock.TurnLock.look.Goals as goal
 
 pub load-requires : goal.load-requires

@@ -1,5 +1,5 @@
 use Rattle.std.proofs.Common.{rules}
-use Rattle.turn_lock.proofs.SeatLemmas.{joins}
+use Rattle.turn_lock.proofs.SplitsAndJoins.{joins}
 use Rattle.turn_lock.proofs.lock.TurnLock.merge.Goals as goal
 
 pub join_seat-requires : goal.join_seat-requires

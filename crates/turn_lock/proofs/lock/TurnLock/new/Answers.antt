@@ -1,7 +1,7 @@
 use Rattle.std.proofs.Common.{rules, refl}
 use Rattle.turn_lock.specs.Views.{newborn}
 use Rattle.turn_lock.specs.Seats.{Knows}
-use Rattle.turn_lock.proofs.TurnLemmas.{alone_known, ready_at}
+use Rattle.turn_lock.proofs.AfterACall.{alone_known, ready_at}
 use Rattle.turn_lock.proofs.lock.TurnLock.new.Goals as goal
 
 pub returns-clause-ready : goal.returns-clause-ready

@@ -1,5 +1,5 @@
 use Rattle.std.proofs.Common.{rules}
-use Rattle.turn_lock.proofs.StepLemmas.{sees}
+use Rattle.turn_lock.proofs.StepsKeepTheRule.{sees}
 use Rattle.turn_lock.proofs.lock.TurnLock.see.Goals as goal
 
 pub load-requires : goal.load-requires

@@ -2,7 +2,7 @@ use Rattle.std.proofs.Common.{rules}
 use Rattle.turn_lock.specs.declared.seat.Seat.{Seat}
 use Rattle.turn_lock.specs.Views.{left_of, right_of}
 use Rattle.turn_lock.specs.Seats.{Knows, known}
-use Rattle.turn_lock.proofs.TurnLemmas.{split_numbers, tallies_known}
+use Rattle.turn_lock.proofs.AfterACall.{split_numbers, tallies_known}
 use Rattle.turn_lock.proofs.lock.TurnLock.split.Goals as goal
 
 pub returns-clause-tallies : goal.returns-clause-tallies

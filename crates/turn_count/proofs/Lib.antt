@@ -1,0 +1,2 @@
+pub mod SameSeats
+pub mod TwoSeats

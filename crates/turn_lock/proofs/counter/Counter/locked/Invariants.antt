@@ -1,4 +1,0 @@
-use Rattle.turn_lock.proofs.counter.Counter.locked.Given as goal
-
-abbrev pub ghost-new : goal.ghost-new
-ghost-new g = 0
