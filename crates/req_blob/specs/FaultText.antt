@@ -10,7 +10,7 @@ use Rattle.req_blob.specs.declared.fault.OpsFault.TheVariants.{Blob, BadKind, Un
 abbrev pub op_text : ℕ → List ℕ
 op_text op = codes "0x" ++ encode_lower (word op)
 
--- the text of a refusal, as a line of the program has it; want of memory has none
+-- the text of a refusal, as a line of the program has it; out of memory has none
 abbrev pub ops_fault_text : OpsFault → List ℕ
 ops_fault_text (Blob why) = codes "1 Blob " ++ blob_fault_text why
 ops_fault_text BadKind = codes "2 BadKind"

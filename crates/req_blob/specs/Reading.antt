@@ -23,7 +23,7 @@ abbrev pub ◌>>=◌ : {A B : Type 0} → Result A OpsFault → (A → Result B 
 (Ok x) >>= f = f x
 (Err e) >>= f = Err e
 
--- what a call returned, seen by view, is what reading gives, unless memory was wanting
+-- what a call returned, seen by view, is what the reading says, unless there was no memory
 abbrev pub Gives : {X Y : Type 0} → (X → Y) → Result X OpsFault → Result Y OpsFault → Type 0
 Gives view (Ok x) read = read ≡ Ok (view x)
 Gives view (Err e) read = e ≢ fault.OutOfMemory → read ≡ Err e

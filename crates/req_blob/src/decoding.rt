@@ -23,7 +23,7 @@ pub(crate) const MAGIC: u32 = 0xfade_0c00;
 pub fn decode(alloc: Global, bytes: &[u8]) -> Result<Req, OpsFault>
     // What is read is spelled so.
     ensures found { IfOk result (λ req. IsSpelling (tree_of req) bytes.now) }
-    // What is spelled so is read, unless memory is wanting.
+    // What is spelled so is read, unless there is no memory.
     ensures only { (tree : Tree) → IsSpelling tree bytes.now → Gives tree_of result (Ok tree) }
     // What is read can be written again.
     ensures encodable { IfOk result (λ req. IsEncodable (tree_of req)) }

@@ -47,7 +47,7 @@ impl OpsFault {
     ghost use Rattle.line_text.specs.declared.limits.TheConstants.{FRONT_LIMIT};
     ghost use Rattle.req_blob.specs.FaultText.{ops_fault_text};
 
-    /// Appends the refusal's number, its name and its fields; nothing for want of memory.
+    /// Appends the refusal's number, its name and its fields; nothing where there was no memory.
     pub fn line_into(&self, out: &mut LineText)
         requires { length (line_bytes out.old) ≤ FRONT_LIMIT + 100 }
         ensures text { line_bytes out.new ≡ line_bytes out.old ++ ops_fault_text self.now }

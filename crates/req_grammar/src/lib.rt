@@ -1,2 +1,4 @@
-//! Which texts are requirements, and of which tree: definitions alone.
+//! Which texts are requirements, and of which tree: definitions, and laws over them.
 #![tactic(auto)]
+
+pub mod laws;

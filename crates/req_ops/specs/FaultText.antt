@@ -5,7 +5,7 @@ use Rattle.req_blob.specs.FaultText.{ops_fault_text}
 use Rattle.req_ops.specs.declared.fault.SetFault.{SetFault}
 use Rattle.req_ops.specs.declared.fault.SetFault.TheVariants.{Blob, TooLong, Trailing, BadSetKind, Part, OutOfMemory}
 
--- the text of a refusal, as a line of the program has it; want of memory has none
+-- the text of a refusal, as a line of the program has it; out of memory has none
 abbrev pub set_fault_text : SetFault → List ℕ
 set_fault_text (Blob why) = codes "1 Blob " ++ blob_fault_text why
 set_fault_text TooLong = codes "2 TooLong"

@@ -26,7 +26,7 @@ impl SetFault {
     ghost use Rattle.line_text.specs.declared.limits.TheConstants.{FRONT_LIMIT};
     ghost use Rattle.req_ops.specs.FaultText.{set_fault_text};
 
-    /// Appends the refusal's number, its name and its fields; nothing for want of memory.
+    /// Appends the refusal's number, its name and its fields; nothing where there was no memory.
     pub fn line_into(&self, out: &mut LineText)
         requires { length (line_bytes out.old) ≤ FRONT_LIMIT }
         ensures text { line_bytes out.new ≡ line_bytes out.old ++ set_fault_text self.now }

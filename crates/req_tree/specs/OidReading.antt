@@ -78,6 +78,6 @@ from_first (Ok p) = before (Ok p.0) (later_numbers p.1)
 abbrev pub numbers_of_text : List ℕ → Result (List ℕ) OidFault
 numbers_of_text text = from_first (first_number (arc_words text))
 
--- the numbers were read and written as bytes, or the fault is the first, or memory was wanting
+-- the numbers were read and written as bytes, or the fault is the first, or there was no memory
 abbrev pub ReadsNumbers : Result (List ℕ) OidFault → Result (List ℕ) OidFault → Type 0
 ReadsNumbers numbers result = MatchResult result (λ bytes. (read : List ℕ) × (numbers ≡ Ok read) × WriteNumbers read bytes) (λ fault. fault ≢ OutOfMemory → numbers ≡ Err fault)

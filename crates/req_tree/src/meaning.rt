@@ -2,6 +2,7 @@
 
 ghost use Rattle.std.specs.Prelude.{◌≡◌};
 ghost use Rattle.req_tree.specs.Tree.{tree_of};
+ghost use Rattle.req_tree.specs.Spellable.{IsShallow};
 ghost use Rattle.req_tree.specs.Subject.{subject_of};
 ghost use Rattle.req_tree.specs.Facts.{no_facts};
 ghost use Rattle.req_tree.specs.Meaning.{mean};
@@ -14,6 +15,7 @@ use crate::subject::Subject;
 impl Req {
     /// Whether the requirement holds of the subject, where the table of facts is empty.
     pub fn holds_without_facts(&self, subject: &Subject) -> bool
+        requires { IsShallow (tree_of self.now) }
         ensures { result ≡ mean (tree_of self.now) (subject_of subject.now) no_facts }
     {
         match self {

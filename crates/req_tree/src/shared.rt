@@ -1,7 +1,8 @@
-//! A requirement that several rules share.
+//! A requirement that several rules share. It is no deeper than a requirement may be, so that it can be walked.
 
 ghost use Rattle.std.specs.Prelude.{◌≡◌, IfOk};
 ghost use Rattle.req_tree.specs.Tree.{tree_of};
+ghost use Rattle.req_tree.specs.Spellable.{IsShallow};
 
 use crate::req::Req;
 use std::alloc::{AllocError, Global};
@@ -18,16 +19,20 @@ impl Model for SharedReq {
     ghost use Rattle.std.specs.Arc.{arc_value};
     ghost use Rattle.req_tree.specs.Tree.{Tree, tree_of};
     ghost use Rattle.req_tree.specs.TreeCode.{tree_code};
+    ghost use Rattle.req_tree.specs.Spellable.{IsShallow};
 
     ghost Value = { Tree };
 
     ghost coded = { tree_code };
 
     ghost view = { λ s. tree_of (arc_value s.shared) };
+
+    ghost invariant = { λ s. IsShallow (tree_of (arc_value s.shared)) };
 }
 
 impl SharedReq {
     pub fn new(alloc: Global, req: Req) -> Result<SharedReq, AllocError>
+        requires { IsShallow (tree_of req) }
         ensures { IfOk result (λ shared. shared ≡ tree_of req) }
     {
         let shared = Arc::new(alloc, req)?;
@@ -43,7 +48,8 @@ impl SharedReq {
     }
 
     pub fn req(&self) -> &Req
-        ensures { tree_of result.now ≡ self.now }
+        ensures tree { tree_of result.now ≡ self.now }
+        ensures shallow { IsShallow (tree_of result.now) }
     {
         &self.shared
     }

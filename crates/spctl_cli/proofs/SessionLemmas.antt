@@ -47,9 +47,12 @@ pub answered_more : (start old new : Desk) (request : Request) (reply whole : Li
     → HasAnswered start new (lines ++ whole ∷ []) (replies ++ reply ∷ [])
 answered_more start old new request reply whole lines replies asks replied answered = λ o h stands.
     let before = answered o h stands in
-    let step = replied o before.0 before.2 in
-    (step.0, session_more o h lines replies before.0 step.0 whole reply before.1
-        (subst (λ (r : Request). Replies o before.0 r reply step.0) (asks ∙ request_of-front whole) step.1), step.2)
+    let step = replied o before.0 before.2 in (
+      step.0,
+      session_more o h lines replies before.0 step.0 whole reply before.1
+          (subst (λ (r : Request). Replies o before.0 r reply step.0) (asks ∙ request_of-front whole) step.1),
+      step.2,
+    )
 
 -- a desk that still stands where it stood answered the same lines
 pub answered_still : (start old new : Desk) (lines replies : List (List ℕ)) → ((o : Opening) (h : List Event) → Stands old o h → Stands new o h)

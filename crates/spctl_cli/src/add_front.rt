@@ -16,6 +16,7 @@ ghost use Rattle.spctl_cli.specs.AddFront.{adds, terms_words};
 use authority_table::{Kind, Label, Moment, Priority};
 use desk_state::{Content, Edit, EditKey, NewRule};
 use line_words::Words;
+use req_grammar::laws::requirements_are_shallow;
 use req_tree::{Bytes, Req, SharedReq};
 use std::alloc::{AllocError, Global};
 
@@ -82,6 +83,7 @@ impl AddFront {
         ensures { IfOk result
             (λ edit. model.edit (edit_of edit) ≡ adds self text.now (tree_of req)) }
     {
+        requirements_are_shallow();
         let tree = SharedReq::new(alloc, req)?;
         let text = Bytes::copy_of(alloc, text)?;
         let rule = NewRule {

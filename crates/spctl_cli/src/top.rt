@@ -10,9 +10,9 @@ ghost use Rattle.spctl_cli.specs.Ends.{SessionEnds, UsageEnds, GavePast};
 
 use crate::command::is_session;
 use crate::desk_lines::session_lines;
-use desk_state::Desk;
 use crate::last_line::write_last;
 use crate::status::Status;
+use desk_state::Desk;
 use gk_io::{Failed, Sink, Source};
 use line_session::Ended;
 use std::alloc::Global;
