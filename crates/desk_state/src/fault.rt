@@ -1,8 +1,7 @@
-//! Refusals of edits and of lines, with their numbers and printed lines.
+//! Refusals of edits, with their numbers and printed lines.
 
 ghost use Rattle.std.specs.Prelude.{◌≡◌, ◌+◌, ◌≤◌, ◌++◌, length};
 ghost use Rattle.line_text.specs.LineText.{line_bytes};
-ghost use Rattle.policy_model.specs.ReplyTexts.{not_built_text};
 
 use crate::answer::numbers_into;
 use req_tree::LineText;
@@ -51,26 +50,6 @@ impl EditFault {
             }
             EditFault::TableFull => out.push_all(b"refused edit 13 TableFull"),
             EditFault::OutOfMemory => {}
-        }
-    }
-}
-
-/// Why a line was not read.
-#[derive(Clone, Copy, Debug, Drop, PartialEq, Eq)]
-pub enum LineFault {
-    /// Number 8: the line is of no form that is read yet.
-    NotBuilt,
-}
-
-impl LineFault {
-    /// Appends the refusal's line, without its end.
-    pub fn line_into(&self, out: &mut LineText)
-        requires { length (line_bytes out.old) ≤ 400 }
-        ensures text { line_bytes out.new ≡ line_bytes out.old ++ not_built_text }
-        ensures length { length (line_bytes out.new) ≤ length (line_bytes out.old) + 100 }
-    {
-        match self {
-            LineFault::NotBuilt => out.push_all(b"refused line 8 NotBuilt"),
         }
     }
 }

@@ -16,6 +16,6 @@ pub use ask::Ask;
 pub use desk::Desk;
 pub use edit::{Content, Edit};
 pub use edit_key::EditKey;
-pub use fault::{EditFault, LineFault};
+pub use fault::EditFault;
 pub use new_rule::NewRule;
 pub use verdict::{Origin, Verdict};

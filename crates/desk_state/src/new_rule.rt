@@ -1,8 +1,11 @@
 //! The rule that an edit adds.
 
-ghost use Rattle.std.specs.Prelude.{◌≡◌, ◌+◌, ◌≤◌, ◌++◌, [], ◌∷◌, length, IfOk};
+ghost use Rattle.std.specs.Prelude.{◌≡◌, ◌+◌, ◌≤◌, ◌++◌, [], ◌∷◌, length, Some, IfOk};
 ghost use Rattle.line_text.specs.LineText.{line_bytes};
-ghost use Rattle.req_grammar.specs.Requirement.{IsRequirement};
+ghost use Rattle.std.specs.Coded.{Coded-set, coded_option};
+ghost use Rattle.req_tree.specs.TreeCode.{tree_code};
+ghost use Rattle.req_grammar.specs.Requirement.{IsRequirement, requirement};
+ghost use Rattle.policy_model.specs.Contents.{IsRuleText};
 ghost use Rattle.policy_model.specs.Texts.{add_front, verdict_word, expiry_text, flags_text};
 
 use authority_table::{Kind, Label, Moment, Priority, Rule, RuleId};
@@ -22,7 +25,8 @@ pub struct NewRule {
     /// The requirement as it was given.
     pub text: Bytes,
     pub tree: SharedReq,
-    pub ghost reads: { ∥ IsRequirement text tree ∥₁ },
+    pub ghost text_is: { IsRuleText text },
+    pub ghost reads: { IsRequirement text tree } by { Coded-set (coded_option tree_code) (requirement text) (Some tree) },
 }
 
 impl NewRule {

@@ -13,6 +13,7 @@ usage: gatekeeper [--facts NAME] STORE COMMAND [WORDS]
   gatekeeper --help, -h         shows this text
   gatekeeper --version, -V      shows the version
 
+So far STORE is `:memory:`, COMMAND is `session`, and --facts isn't read.
 gatekeeper(1) tells the lines and their answers.
 ";
 

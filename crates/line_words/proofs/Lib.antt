@@ -1,2 +1,3 @@
-mod SplitLemmas
-mod NumberLemmas
+mod FewDigits
+mod FirstWord
+mod OneWordAtLeast

@@ -10,15 +10,16 @@ ghost use Rattle.authority_table.specs.Kind.{kind_of};
 
 use crate::number::read_number;
 use authority_table::{Kind, Moment, Priority};
+use policy_model::limits::UNIT;
 use req_tree::Identifier;
-
-/// How many millionths a unit of priority has.
-const UNIT: i64 = 1_000_000;
+use session_model::limits::{
+    GREATEST_PLATFORM, GREATEST_UNITS, MOMENT_DIGITS, PLATFORM_DIGITS, PRIORITY_DIGITS,
+};
 
 pub fn read_moment(word: &[u8]) -> Option<Moment>
     ensures { result ≡ moment_word word.now }
 {
-    Moment::of(read_number(word, 12, Moment::GREATEST)?)
+    Moment::of(read_number(word, MOMENT_DIGITS, Moment::GREATEST)?)
 }
 
 /// A moment, or `Some(None)` for the word `never`.
@@ -77,8 +78,8 @@ fn read_units(word: &[u8]) -> Option<i64>
     ensures least { IfSome result (λ n. pos 0 ≤ℤ n) }
     ensures greatest { IfSome result (λ n. n ≤ℤ pos 1000000000000) }
 {
-    let units = read_number(word, 7, 1_000_000)?;
-    Some(units as i64 * UNIT)
+    let units = read_number(word, PRIORITY_DIGITS, GREATEST_UNITS)?;
+    Some((units * UNIT) as i64)
 }
 
 pub fn is_dash(word: &[u8]) -> bool
@@ -111,6 +112,6 @@ fn is_plain_text(word: &[u8]) -> bool
 pub fn read_platform(word: &[u8]) -> Option<u8>
     ensures { result ≡ platform_word word.now }
 {
-    let number = read_number(word, 3, 255)?;
+    let number = read_number(word, PLATFORM_DIGITS, GREATEST_PLATFORM)?;
     Some(number as u8)
 }

@@ -81,7 +81,3 @@ answer_text (disable_full id) = codes "refused edit 15 DisableFull rule=" ++ dec
 -- the desk's moment
 abbrev pub now_text : ℕ → List ℕ
 now_text m = codes "now=" ++ decimal m
-
--- the answer to a line of no form that is read yet
-abbrev pub not_built_text : List ℕ
-not_built_text = codes "refused line 8 NotBuilt"

@@ -1,1 +1,2 @@
+mod FrontOfALine
 mod WorkedRows

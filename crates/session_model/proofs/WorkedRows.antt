@@ -1,17 +1,19 @@
 -- Worked sessions, computed by the definitions alone: lines, and the replies that were worked out by hand.
-use Rattle.std.specs.Prelude.{◌≡◌, ℕ, List, [], ◌∷◌, ◌++◌, replicate, refl, codes}
+use Rattle.std.specs.Prelude.{◌≡◌, ℕ, List, [], ◌∷◌, ◌++◌, replicate, refl, codes, Err}
 use Rattle.std.specs.Fmt.{digits}
 use Rattle.hex.specs.Hex.{decode_pairs}
 use Rattle.req_tree.specs.Facts.{no_facts}
 use Rattle.policy_model.specs.Texts.{places, add_front, content_text}
-use Rattle.policy_model.specs.History.{Event, fresh}
-use Rattle.session_model.specs.Lines.{request_of, not_built}
+use Rattle.policy_model.specs.History.{fresh}
 use Rattle.policy_model.specs.ReplyTexts.{verdict_text}
-use Rattle.session_model.specs.Session.{Session}
+use Rattle.session_model.specs.LineFaults.{LineFault, bad_line, bad_moment, not_built}
+use Rattle.session_model.specs.Lines.{request_of}
+use Rattle.session_model.specs.Session as session
+use Rattle.session_model.specs.Session.{begun}
 
--- some history has these replies to these lines
+-- a session of a fresh desk has these replies to these lines
 abbrev Answers : List (List ℕ) → List (List ℕ) → Type 0
-Answers lines replies = (after : List Event) × Session (fresh no_facts) [] lines replies after
+Answers lines replies = session.Answers (fresh no_facts) begun lines replies
 
 abbrev ones : List ℕ
 ones = replicate 40 49
@@ -53,5 +55,25 @@ repeats = (_, (_, (refl, refl), (_, (refl, refl), (_, (refl, refl), refl))))
 no_lines : Answers [] []
 no_lines = (_, refl)
 
-two_spaces : request_of (codes "tick  5") ≡ not_built
+-- each fault with its column
+
+abbrev Refused : List ℕ → LineFault → Type 0
+Refused line fault = request_of line ≡ Err fault
+
+two_spaces : Refused (codes "tick  5") bad_moment
 two_spaces = refl
+
+one_word_too_many : Refused (codes "tick 5 ") (bad_line 8)
+one_word_too_many = refl
+
+a_word_is_missing : Refused (codes "assess execute") (bad_line 15)
+a_word_is_missing = refl
+
+no_kind : Refused (codes "assess run") (bad_line 8)
+no_kind = refl
+
+no_requirement : Refused (codes "add k1 execute allow 0 never - -") (bad_line 33)
+no_requirement = refl
+
+an_empty_line : Refused [] not_built
+an_empty_line = refl

@@ -1,3 +1,8 @@
 pub mod Words
+pub mod LineFaults
+pub mod Left
+pub mod Forms
 pub mod Lines
 pub mod Session
+pub mod Commands
+pub mod Laws

@@ -1,20 +1,37 @@
--- What a session is: lines, the reply to each, and the history that they make. This project's own.
-use Rattle.std.specs.Prelude.{◌≡◌, List, [], ◌∷◌, ◌++◌, ℕ}
-use Rattle.session_model.specs.Lines.{Request, tick, assess, edit, not_built, request_of}
+-- What a session is: lines, the reply to each, and the state that they lead to. This project's own.
+use Rattle.std.specs.Prelude.{◌≡◌, List, [], ◌∷◌, ◌++◌, ℕ, Result, Ok, Err}
 use Rattle.policy_model.specs.History.{Event, Opening, now_of, ask_answer, edit_answer}
 use Rattle.policy_model.specs.History as event
-use Rattle.policy_model.specs.ReplyTexts.{now_text, verdict_text, origin_on, fate_on, answer_text, not_built_text}
+use Rattle.policy_model.specs.ReplyTexts.{now_text, verdict_text, origin_on, fate_on, answer_text}
+use Rattle.session_model.specs.LineFaults.{LineFault, line_fault_text}
+use Rattle.session_model.specs.Lines.{Request, tick, assess, edit, request_of}
 
--- the reply to a request after a history, and the history after it
-abbrev pub Replies : Opening → List Event → Request → List ℕ → List Event → Type 0
-Replies o h (tick m) reply after = (after ≡ h ++ event.tick m ∷ []) × (reply ≡ now_text (now_of o after))
-Replies o h (assess a) reply after = (after ≡ h ++ event.ask a ∷ []) × (reply ≡ verdict_text (ask_answer o h a) (origin_on a.subject) (fate_on a.subject))
-Replies o h (edit e) reply after = (after ≡ h ++ event.edit e ∷ []) × (reply ≡ answer_text (edit_answer o h e))
-Replies o h not_built reply after = (after ≡ h) × (reply ≡ not_built_text)
+-- where a session stands: what has happened on the desk
+pub record State : Type 0 where
+  pub history : List Event
 
--- from the opening o and the history h on, the lines get the replies, line by line, and leave the history after
-abbrev pub Session : Opening → List Event → List (List ℕ) → List (List ℕ) → List Event → Type 0
-Session o h [] [] after = after ≡ h
-Session o h (line ∷ lines) (reply ∷ replies) after = (mid : List Event) × Replies o h (request_of line) reply mid × Session o mid lines replies after
-Session o h [] (reply ∷ replies) after = ⊥
-Session o h (line ∷ lines) [] after = ⊥
+-- nothing has happened
+abbrev pub begun : State
+begun = record { history = [] }
+
+-- the state after one more event
+abbrev pub happens : Event → State → State
+happens e s = record { history = s.history ++ e ∷ [] }
+
+-- from the opening o and the state s on: the reply to what a line asks for, or to its fault, and the state after it
+abbrev pub Replies : Opening → State → Result Request LineFault → List ℕ → State → Type 0
+Replies o s (Ok (tick m)) reply after = (after ≡ happens (event.tick m) s) × (reply ≡ now_text (now_of o after.history))
+Replies o s (Ok (assess a)) reply after = (after ≡ happens (event.ask a) s) × (reply ≡ verdict_text (ask_answer o s.history a) (origin_on a.subject) (fate_on a.subject))
+Replies o s (Ok (edit e)) reply after = (after ≡ happens (event.edit e) s) × (reply ≡ answer_text (edit_answer o s.history e))
+Replies o s (Err fault) reply after = (after ≡ s) × (reply ≡ line_fault_text fault)
+
+-- the lines get the replies, line by line, and lead from the state s to the state after
+abbrev pub Session : Opening → State → List (List ℕ) → List (List ℕ) → State → Type 0
+Session o s [] [] after = after ≡ s
+Session o s (line ∷ lines) (reply ∷ replies) after = (mid : State) × Replies o s (request_of line) reply mid × Session o mid lines replies after
+Session o s [] (reply ∷ replies) after = ⊥
+Session o s (line ∷ lines) [] after = ⊥
+
+-- the lines get the replies, whatever state they lead to
+abbrev pub Answers : Opening → State → List (List ℕ) → List (List ℕ) → Type 0
+Answers o s lines replies = (after : State) × Session o s lines replies after

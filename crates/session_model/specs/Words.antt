@@ -1,9 +1,11 @@
 -- The words of a line, and what each stands for. This project's own.
-use Rattle.std.specs.Prelude.{ℕ, ◌*◌, ℤ, pos, neg_ℤ, List, [], ◌∷◌, length, Bool, true, false, ◌&&◌, ◌||◌, not, ◌==◌, nat_le, Option, Some, None, option_map, if◌then◌else◌, codes, bytes_eq}
+use Rattle.std.specs.Prelude.{ℕ, ◌*◌, ℤ, pos, neg_ℤ, List, [], ◌∷◌, length, Bool, true, false, ◌&&◌, not, ◌==◌, nat_le, Option, Some, None, option_map, if◌then◌else◌, codes, bytes_eq}
 use Rattle.std.specs.List.{slice_split, join_with_byte, list_all}
 use Rattle.std.specs.Char.{is_ascii_digit}
 use Rattle.req_tree.specs.NumericOrder.{number_of}
 use Rattle.line_text.specs.WordText.{is_plain}
+use Rattle.policy_model.specs.declared.limits.TheConstants.{GREATEST_MOMENT, UNIT}
+use Rattle.session_model.specs.declared.limits.TheConstants.{MOMENT_DIGITS, PRIORITY_DIGITS, GREATEST_UNITS, PLATFORM_DIGITS, GREATEST_PLATFORM}
 use Rattle.policy_model.specs.Keys.{is_key}
 use Rattle.policy_model.specs.Rules.{Kind, execute, install, document}
 
@@ -23,7 +25,7 @@ number_word most greatest word =
 
 -- seconds up to the end of the year 9999
 abbrev pub moment_word : List ℕ → Option ℕ
-moment_word word = number_word 12 253402300799 word
+moment_word word = number_word MOMENT_DIGITS GREATEST_MOMENT word
 
 -- a moment, or never
 abbrev pub expiry_word : List ℕ → Option (Option ℕ)
@@ -43,7 +45,7 @@ allow_word word = if bytes_eq word (codes "allow") then Some true else if bytes_
 
 -- whole units, in millionths
 abbrev pub units_word : List ℕ → Option ℕ
-units_word word = option_map (λ n. n * 1000000) (number_word 7 1000000 word)
+units_word word = option_map (λ n. n * UNIT) (number_word PRIORITY_DIGITS GREATEST_UNITS word)
 
 -- whole units behind a sign or none, in millionths
 abbrev pub priority_word : List ℕ → Option ℤ
@@ -65,4 +67,4 @@ identifier_word word =
 
 -- a number up to 255, of 1 to 3 digits
 abbrev pub platform_word : List ℕ → Option ℕ
-platform_word word = number_word 3 255 word
+platform_word word = number_word PLATFORM_DIGITS GREATEST_PLATFORM word

@@ -1,2 +1,5 @@
-//! What a line asks for, and what a session is: definitions alone.
+//! What a line asks for, and what a session is: definitions, and laws over them.
 #![tactic(auto)]
+
+pub mod laws;
+pub mod limits;

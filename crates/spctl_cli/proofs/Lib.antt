@@ -1,5 +1,3 @@
-mod RequirementLemmas
-mod FrontLemmas
-mod SessionLemmas
-mod EndLemmas
-mod CommandLemmas
+mod EndsOfSessions
+mod Past
+mod UsageAlone

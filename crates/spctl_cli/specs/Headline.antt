@@ -1,20 +1,19 @@
--- The headline: what a run that ends well has read and written. This project's own.
-use Rattle.std.specs.Prelude.{ℕ, List, [], Option}
+-- The headline: what a session that ends well has read and written. This project's own.
+use Rattle.std.specs.Prelude.{ℕ, List, Option}
 use Rattle.std.specs.Io.KnownBytes.{Appends, Consumes, IsAtEnd}
-use Rattle.req_tree.specs.Facts.{no_facts}
-use Rattle.policy_model.specs.History.{Event, fresh}
-use Rattle.session_model.specs.Session.{Session}
+use Rattle.policy_model.specs.History.{Opening}
+use Rattle.session_model.specs.Session.{State, Session}
 use Rattle.line_reader.specs.Lines.{lines_of, text_of}
 use Rattle.line_reader.specs.Limits.{IsWithin}
 
--- the source lost all its bytes and is at its end, and the sink gained just the replies, each with its LF, that a session of
--- a fresh desk gives to the lines of those bytes
-pub record IsSession (left now written sent : Option (List ℕ)) : Type 0 where
+-- the source lost all its bytes and is at its end, and the sink gained just the replies, each with its LF, that a session from
+-- the opening o and the state s on gives to the lines of those bytes
+pub record IsSession (o : Opening) (s : State) (left now written sent : Option (List ℕ)) : Type 0 where
   pub bytes : List ℕ
   pub replies : List (List ℕ)
-  pub history : List Event
+  pub after : State
   pub taken : Consumes left now bytes
   pub at_end : IsAtEnd now
   pub within : IsWithin bytes
   pub put : Appends written sent (text_of replies)
-  pub session : Session (fresh no_facts) [] (lines_of bytes) replies history
+  pub session : Session o s (lines_of bytes) replies after

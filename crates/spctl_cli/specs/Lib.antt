@@ -1,9 +1,5 @@
-pub mod AddFront
-pub mod Answered
 pub mod CommandLine
 pub mod Ends
 pub mod Headline
 pub mod LastLines
-pub mod Laws
-pub mod Requests
 pub mod Status

@@ -3,7 +3,7 @@ use Rattle.std.specs.Prelude.{ℕ}
 use Rattle.spctl_cli.specs.declared.status.Status.{Status}
 use Rattle.spctl_cli.specs.declared.status.Status.TheVariants.{Fine, Usage, ReadFault, WriteFault, SessionTooLong, OutOfMemory}
 
--- 0 where all went well, 1 for a fault or an input that is too long, 2 for other words, 4 for want of memory
+-- 0 where all went well, 1 for a fault or an input that is too long, 2 for words that are no command, 4 where memory ran out
 abbrev pub status_code : Status → ℕ
 status_code Fine = 0
 status_code Usage = 2

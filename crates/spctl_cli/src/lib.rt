@@ -1,18 +1,10 @@
-//! The top call: a session's lines in, its replies out.
+//! The top call: all that the program does.
 #![tactic(auto)]
 
-mod add_front;
 mod command;
-mod desk_lines;
 mod last_line;
-mod laws;
-mod request;
-mod requirement;
+mod program;
 mod status;
-#[cfg(test)]
-mod tests;
-mod top;
 
-pub use laws::the_front_asks_the_same;
+pub use program::run;
 pub use status::Status;
-pub use top::run;

@@ -11,9 +11,9 @@ pub enum Status {
     ReadFault,
     /// The sink failed.
     WriteFault,
-    /// The source gave a byte past the limits of a session.
+    /// The source gave one byte past the limits of a session.
     SessionTooLong,
-    /// Memory was wanting.
+    /// Memory ran out.
     OutOfMemory,
 }
 

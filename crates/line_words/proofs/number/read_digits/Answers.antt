@@ -1,6 +1,6 @@
 -- A number of fewer than 19 digits has room for one more.
 use Rattle.std.proofs.Common.{◌<◌, ◌^◌, arith}
-use Rattle.line_words.proofs.NumberLemmas.{fits_more}
+use Rattle.line_words.proofs.FewDigits.{fits_more}
 use Rattle.line_words.proofs.number.read_digits.Goals as goal
 
 pub overflow_mul-number : goal.overflow_mul-number

@@ -1,0 +1,3 @@
+mod HashOfCode
+mod NoLf
+mod OneLineMore

@@ -1,0 +1,3 @@
+pub mod AddFront
+pub mod Answered
+pub mod Requests

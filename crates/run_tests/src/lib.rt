@@ -1,0 +1,11 @@
+//! Tests of the top call: sessions from outside, and devices, limits and memory that fail.
+#![tactic(auto)]
+
+#[cfg(test)]
+mod devices;
+#[cfg(test)]
+mod failures;
+#[cfg(test)]
+mod limits;
+#[cfg(test)]
+mod sessions;

@@ -1,0 +1,94 @@
+-- From how the session of a desk ends to how a run ends.
+use Rattle.std.proofs.Common.{◌≡◌, ◌≢◌, ◌⊎◌, ℕ, List, Option, inl, inr, refl}
+use Rattle.std.specs.Io.KnownBytes.{Appends}
+use Rattle.gk_io.specs.Told.{AppendsFront}
+use Rattle.line_reader.specs.Lines.{with_lf}
+use Rattle.line_session.specs.Ends.{EndsFine, StopsBefore, BreaksOff}
+use Rattle.policy_model.specs.History.{Opening}
+use Rattle.session_model.specs.Session.{State, Answers}
+use Rattle.desk_state.specs.Stands.{Stands}
+use Rattle.desk_state.specs.declared.desk.Desk.{Desk}
+use Rattle.desk_lines.specs.Answered.{HasAnswered}
+use Rattle.spctl_cli.specs.declared.status.Status.{Status}
+use Rattle.spctl_cli.specs.declared.status.Status.TheVariants.{Fine, Usage, ReadFault, WriteFault, SessionTooLong, OutOfMemory}
+use Rattle.spctl_cli.specs.Headline.{IsSession}
+use Rattle.spctl_cli.specs.Ends.{TellsFault, BreaksAtFault, SessionEnds}
+
+-- the replies of a desk that stood for the state s
+answers : (o : Opening) (s : State) (start desk : Desk) (lines replies : List (List ℕ)) → Stands start o s.history → HasAnswered start desk lines replies → Answers o s lines replies
+answers o s start desk lines replies stands answered = ((answered o s stands).0, (answered o s stands).1)
+
+-- a session that is read to its end
+pub session_fine : (o : Opening) (s : State) (start desk : Desk) (stands : Stands start o s.history) (left now written sent : Option (List ℕ))
+    → EndsFine (HasAnswered start desk) left now written sent → IsSession o s left now written sent
+session_fine o s start desk stands left now written sent e = record {
+  bytes = e.bytes;
+  replies = e.replies;
+  after = (e.answered o s stands).0;
+  taken = e.taken;
+  at_end = e.at_end;
+  within = e.within;
+  put = e.put;
+  session = (e.answered o s stands).1;
+}
+
+-- a session that stops before its end
+pub session_stops : (Why : List (List ℕ) → List ℕ → Type 0) (o : Opening) (s : State) (start desk : Desk) (stands : Stands start o s.history) (left now written sent : Option (List ℕ))
+    → StopsBefore Why (HasAnswered start desk) left now written sent → StopsBefore Why (Answers o s) left now written sent
+session_stops Why o s start desk stands left now written sent e = record {
+  lines = e.lines;
+  rest = e.rest;
+  replies = e.replies;
+  taken = e.taken;
+  whole = e.whole;
+  within = e.within;
+  why = e.why;
+  put = e.put;
+  answered = answers o s start desk e.lines e.replies stands e.answered;
+}
+
+-- a session whose sink fails at a reply
+pub session_breaks : (o : Opening) (s : State) (start desk : Desk) (stands : Stands start o s.history) (left now written sent : Option (List ℕ))
+    → BreaksOff (HasAnswered start desk) left now written sent → BreaksOff (Answers o s) left now written sent
+session_breaks o s start desk stands left now written sent e = record {
+  lines = e.lines;
+  line = e.line;
+  rest = e.rest;
+  replies = e.replies;
+  reply = e.reply;
+  count = e.count;
+  taken = e.taken;
+  whole = e.whole;
+  within = e.within;
+  ended = e.ended;
+  put = e.put;
+  answered = answers o s start desk _ _ stands e.answered;
+}
+
+-- and then the line of a fault
+pub session_tells : (Why : List (List ℕ) → List ℕ → Type 0) (text : List ℕ) (o : Opening) (s : State) (start desk : Desk) (stands : Stands start o s.history) (left now written mid sent : Option (List ℕ))
+    → StopsBefore Why (HasAnswered start desk) left now written mid → Appends mid sent (with_lf text) → TellsFault Why text o s left now written sent
+session_tells Why text o s start desk stands left now written mid sent e put = record {
+  replied = mid;
+  stops = session_stops Why o s start desk stands left now written mid e;
+  told = put;
+}
+
+-- and then a front of the line of a fault
+pub session_cut : (Why : List (List ℕ) → List ℕ → Type 0) (text : List ℕ) (o : Opening) (s : State) (start desk : Desk) (stands : Stands start o s.history) (left now written mid sent : Option (List ℕ))
+    → StopsBefore Why (HasAnswered start desk) left now written mid → AppendsFront mid sent (with_lf text) → BreaksAtFault Why text o s left now written sent
+session_cut Why text o s start desk stands left now written mid sent e put = record {
+  replied = mid;
+  stops = session_stops Why o s start desk stands left now written mid e;
+  told = put;
+}
+
+-- a session that neither failed nor ran past its limits ends well, or out of memory
+pub session_complete : (o : Opening) (s : State) (left now written sent : Option (List ℕ)) (status : Status) (R W : Type 0) → SessionEnds o s left now written sent status
+    → status ≢ SessionTooLong → (status ≡ ReadFault → R) → (status ≡ WriteFault → W) → (R → ⊥) → (W → ⊥) → (status ≡ Fine) ⊎ (status ≡ OutOfMemory)
+session_complete o s left now written sent Fine R W e within read write r w = inl refl
+session_complete o s left now written sent Usage R W e within read write r w = absurd e
+session_complete o s left now written sent ReadFault R W e within read write r w = absurd (r (read refl))
+session_complete o s left now written sent WriteFault R W e within read write r w = absurd (w (write refl))
+session_complete o s left now written sent SessionTooLong R W e within read write r w = absurd (within refl)
+session_complete o s left now written sent OutOfMemory R W e within read write r w = inr refl

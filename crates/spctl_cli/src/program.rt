@@ -1,0 +1,133 @@
+//! All that the program does.
+
+ghost use Rattle.std.specs.Prelude.{◌≡◌, ◌≢◌, ◌⊎◌, ◌≤◌, ◌↔◌, ℕ, List, Option, Some, None, IsSome, is_some};
+ghost use Rattle.gk_io.specs.Faults.{CanRise, Rose};
+ghost use Rattle.gk_io.specs.Told.{IsFlushed};
+ghost use Rattle.line_reader.specs.Limits.{IsWithin};
+ghost use Rattle.req_tree.specs.Facts.{no_facts};
+ghost use Rattle.policy_model.specs.History.{fresh};
+ghost use Rattle.session_model.specs.Session.{begun};
+ghost use Rattle.session_model.specs.Commands as model;
+ghost use Rattle.spctl_cli.specs.CommandLine.{texts};
+ghost use Rattle.spctl_cli.specs.Headline.{IsSession};
+ghost use Rattle.spctl_cli.specs.Ends.{RunEnds, SessionEnds, UsageEnds, GavePast};
+
+use crate::command::{Command, command_of};
+use crate::last_line::write_last;
+use crate::status::Status;
+use desk_lines::session_lines;
+use desk_state::Desk;
+use gk_io::{Failed, Sink, Source};
+use line_session::Ended;
+use std::alloc::Global;
+
+/// Does what the words of the command line say, of which the program's name is none.
+pub fn run<S: Source, W: Sink>(
+    alloc: Global,
+    words: &[&str],
+    input: &mut S,
+    output: &mut W,
+) -> Status
+    // The headline: a session that ends well wrote just the replies to the lines it read.
+    ensures fine { model.command_of (texts words.now) ≡ Some model.session → result ≡ Status.Fine
+        → IsSession (fresh no_facts) begun (S.left input.old) (S.left input.new)
+        (W.written output.old) (W.written output.new) }
+
+    // What was read, answered and written, by the command and the end.
+    ensures ends { RunEnds (fresh no_facts) begun (model.command_of (texts words.now))
+        (S.left input.old) (S.left input.new) (W.written output.old) (W.written output.new) result }
+
+    ensures flushed { result ≢ Status.WriteFault → IsFlushed (W.flushed output.old) (W.written output.old)
+        → IsFlushed (W.flushed output.new) (W.written output.new) }
+
+    // The cause of each end. A fault is that of its device, in this call. Running out of memory needs no
+    // cause; what comes exactly where something holds yields to it and to a fault of the sink, and a fault
+    // that the count shows yields to a fault of the sink alone.
+    ensures usage_cause { result ≢ Status.WriteFault → result ≢ Status.OutOfMemory
+        → ((result ≡ Status.Usage) ↔ (model.command_of (texts words.now) ≡ None)) }
+    ensures read_cause { result ≡ Status.ReadFault → Rose (S.faults input.old) (S.faults input.new) }
+    ensures write_cause { result ≡ Status.WriteFault → Rose (W.faults output.old) (W.faults output.new) }
+    ensures read_exact { CanRise (S.faults input.old) → result ≢ Status.WriteFault
+        → ((result ≡ Status.ReadFault) ↔ Rose (S.faults input.old) (S.faults input.new)) }
+    ensures write_exact { CanRise (W.faults output.old)
+        → ((result ≡ Status.WriteFault) ↔ Rose (W.faults output.old) (W.faults output.new)) }
+    ensures too_long_cause { IsSome (S.left input.old)
+        → result ≢ Status.WriteFault → result ≢ Status.OutOfMemory
+        → ((result ≡ Status.SessionTooLong) ↔ GavePast (S.left input.old) (S.left input.new)) }
+
+    // A session within its limits, over devices that don't fail, ends well or out of memory.
+    ensures complete { (bytes : List ℕ) → model.command_of (texts words.now) ≡ Some model.session
+        → S.left input.old ≡ Some bytes → IsWithin bytes
+        → ¬ Rose (S.faults input.old) (S.faults input.new)
+        → ¬ Rose (W.faults output.old) (W.faults output.new)
+        → (result ≡ Status.Fine) ⊎ (result ≡ Status.OutOfMemory) }
+
+    // Devices tell afterwards what they told before, and their counts don't fall.
+    ensures input_telling { is_some (S.left input.new) ≡ is_some (S.left input.old) }
+    ensures output_telling { is_some (W.written output.new) ≡ is_some (W.written output.old) }
+    ensures flushed_telling { is_some (W.flushed output.new) ≡ is_some (W.flushed output.old) }
+    ensures input_later { S.faults input.old ≤ S.faults input.new }
+    ensures output_later { W.faults output.old ≤ W.faults output.new }
+{
+    match command_of(words) {
+        Some(Command::Session) => session(alloc, input, output),
+        None => usage(output),
+    }
+}
+
+/// Answers the lines of the input by a fresh desk.
+fn session<S: Source, W: Sink>(alloc: Global, input: &mut S, output: &mut W) -> Status
+    ensures ends { SessionEnds (fresh no_facts) begun (S.left input.old) (S.left input.new)
+        (W.written output.old) (W.written output.new) result }
+    ensures within { (bytes : List ℕ) → S.left input.old ≡ Some bytes → IsWithin bytes
+        → result ≢ Status.SessionTooLong }
+    ensures flushed { result ≢ Status.WriteFault → IsFlushed (W.flushed output.old) (W.written output.old)
+        → IsFlushed (W.flushed output.new) (W.written output.new) }
+    ensures read_cause { result ≡ Status.ReadFault → Rose (S.faults input.old) (S.faults input.new) }
+    ensures write_cause { result ≡ Status.WriteFault → Rose (W.faults output.old) (W.faults output.new) }
+    ensures read_steady { result ≢ Status.ReadFault → result ≢ Status.WriteFault
+        → S.faults input.new ≡ S.faults input.old }
+    ensures write_steady { result ≢ Status.WriteFault → W.faults output.new ≡ W.faults output.old }
+    ensures input_telling { is_some (S.left input.new) ≡ is_some (S.left input.old) }
+    ensures output_telling { is_some (W.written output.new) ≡ is_some (W.written output.old) }
+    ensures flushed_telling { is_some (W.flushed output.new) ≡ is_some (W.flushed output.old) }
+    ensures input_later { S.faults input.old ≤ S.faults input.new }
+    ensures output_later { W.faults output.old ≤ W.faults output.new }
+{
+    let mut desk = Desk::fresh(alloc);
+    let ended = session_lines(alloc, &mut desk, input, output);
+    drop(desk);
+    match ended {
+        Ended::Fine => Status::Fine,
+        Ended::WriteFault => Status::WriteFault,
+        Ended::OutOfMemory => Status::OutOfMemory,
+        Ended::ReadFault => match write_last(output, b"fault ReadFault") {
+            Ok(()) => Status::ReadFault,
+            Err(Failed) => Status::WriteFault,
+        },
+        Ended::TooLong => match write_last(output, b"fault SessionTooLong") {
+            Ok(()) => Status::SessionTooLong,
+            Err(Failed) => Status::WriteFault,
+        },
+    }
+}
+
+/// Tells how the program is called.
+fn usage<W: Sink>(output: &mut W) -> Status
+    ensures ends { (left : Option (List ℕ))
+        → UsageEnds left left (W.written output.old) (W.written output.new) result }
+    ensures flushed { result ≢ Status.WriteFault → IsFlushed (W.flushed output.new) (W.written output.new) }
+    ensures telling { is_some (W.written output.new) ≡ is_some (W.written output.old) }
+    ensures flushed_telling { is_some (W.flushed output.new) ≡ is_some (W.flushed output.old) }
+    ensures write_cause { result ≡ Status.WriteFault → Rose (W.faults output.old) (W.faults output.new) }
+    ensures write_steady { result ≢ Status.WriteFault → W.faults output.new ≡ W.faults output.old }
+    ensures output_later { W.faults output.old ≤ W.faults output.new }
+{
+    match write_last(
+        output,
+        b"usage: gatekeeper [--facts NAME] STORE COMMAND [WORDS]",
+    ) {
+        Ok(()) => Status::Usage,
+        Err(Failed) => Status::WriteFault,
+    }
+}
