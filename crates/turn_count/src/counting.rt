@@ -48,7 +48,7 @@ pub fn in_two<R: Threads + Wait + Sync>(
             ensures ends { EndsCounting (known two.entry.now) (known two.exit.now) times result }
         { bump_times(rt, lock, two, times) },
     );
-    first && second
+    first & second
 }
 
 /// Four threads count that many events each. False where one of them found no ticket left.
@@ -88,7 +88,7 @@ pub fn in_four<R: Threads + Wait + Sync>(
                 × EndsCounting (known four.entry.now) (known four.exit.now) times b }
         { in_two(rt, lock, three, four, times) },
     );
-    front && back
+    front & back
 }
 
 /// What two threads count, that many events each.
@@ -158,7 +158,7 @@ pub fn in_generations<R: Wait>(
     let theirs = in_generations(rt, lock, &mut other, generations - 1);
     let ours = counts_one(rt, lock, seat, generations);
     lock.join(seat, other);
-    theirs && ours
+    theirs & ours
 }
 
 // Counts one event. False where it found no ticket left.
