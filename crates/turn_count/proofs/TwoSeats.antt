@@ -1,5 +1,5 @@
 -- The count of a lock that two seats took turns at.
-use Rattle.std.proofs.Common.{◌≡◌, ◌≢◌, ◌⊎◌, ℕ, zero, suc, ◌+◌, ◌<◌, ◌≤◌, ◌%◌, ◌^◌, Bool, true, false, ◌&&◌, List, [], ◌∷◌, ◌++◌, refl, ap, sym, subst, ◌∙◌, ⊎_elim, inl, inr, arith, eq-eqb, ne_eqb, add_assoc, append_assoc, add-one, length, length-append}
+use Rattle.std.proofs.Common.{◌≡◌, ◌≢◌, ◌⊎◌, ℕ, zero, suc, ◌+◌, ◌<◌, ◌≤◌, ◌%◌, ◌^◌, Bool, true, false, ◌&&◌, List, [], ◌∷◌, ◌++◌, refl, ap, sym, subst, ◌∙◌, ⊎_elim, inl, inr, arith, eq-eqb, ne_eqb, add_assoc, add-one, length, length-append}
 use Rattle.std.proofs.lemmas.List.Sums.{sum_by-append}
 use mathlib.Core.Option.{some, some-ne-none, some-injective}
 use lib.ListN.{get_elem?}
@@ -18,8 +18,7 @@ one_more t h = sum_by-append (λ (u : Turn ℕ). length u.events) (t ∷ []) h
 swapped : (x y z : ℕ) → x + (y + z) ≡ y + (x + z)
 swapped x y z = omega arith
 
--- nothing added
-pub from_zero : (x : ℕ) → 0 + x ≡ x
+from_zero : (x : ℕ) → 0 + x ≡ x
 from_zero x = omega arith
 
 -- where each turn is of one of two numbers, their events are all
@@ -88,14 +87,6 @@ two_length h v w u p q e has account =
     let parts = two_parts h v w u p q e has account in
     parted_length v.number w.number parts.far h parts.each ∙ (λ i. length (parts.mine i) + length (parts.theirs i))
 
--- one turn more
-pub taken_more : (v u w : View ℕ ℕ) (n : ℕ) → u.number ≡ v.number → HasTaken v u n → w.own ≡ u.own ++ turn_of u (n ∷ []) ∷ [] → HasTaken v w (suc n)
-taken_more v u w n same h t =
-    t ∙ ap (λ k. u.own ++ turn_by k (n ∷ []) ∷ []) same ∙ ap (λ l. l ++ turn_of v (n ∷ []) ∷ []) h ∙ append_assoc v.own (counting v n) (turn_of v (n ∷ []) ∷ [])
-  where
-    turn_by : ℕ → List ℕ → Turn ℕ
-    turn_by k events = record { by = k; events = events }
-
 counting_events : (v : View ℕ ℕ) (n : ℕ) → event_count (counting v n) ≡ n
 counting_events v zero = refl
 counting_events v (suc n) = sum_by-append (λ (u : Turn ℕ). length u.events) (counting v n) (turn_of v (n ∷ []) ∷ []) ∙ ap (λ k. k + 1) (counting_events v n) ∙ add-one n
@@ -109,7 +100,7 @@ counting_length v zero = refl
 counting_length v (suc n) = length-append (counting v n) (turn_of v (n ∷ []) ∷ []) ∙ ap (λ k. k + 1) (counting_length v n) ∙ add-one n
 
 -- a seat that began with no turns has just as many as it took
-pub taken_length : (v w : View ℕ ℕ) (n : ℕ) → v.own ≡ [] → HasTaken v w n → length w.own ≡ n
+taken_length : (v w : View ℕ ℕ) (n : ℕ) → v.own ≡ [] → HasTaken v w n → length w.own ≡ n
 taken_length v w n none h = ap length (h ∙ ap (λ l. l ++ counting v n) none) ∙ counting_length v n
 
 ended_all : (times : ℕ) (o v : View ℕ ℕ) → o.own ≡ [] → HasEnded o v times true → length v.own ≡ times

@@ -59,7 +59,7 @@ module _ {S O E : Type 0} (stands : S → O → List (Turn E) → Type 0) (value
       (λ e. absurd (b.apart by id u v e there at live here u.number (own_number u) (has u.number)))
 
   -- the rule at the end is what is said of a lock that was closed
-  pub closes : (id : ℕ) (v : View O E) (o : O) (ws : List ℕ) (xs : List (Option S)) → v.origin ≡ Some o → Rests v → Final (Seen (Ruled stands value) id v) ws xs → IsStopped stands v ws xs
+  closes : (id : ℕ) (v : View O E) (o : O) (ws : List ℕ) (xs : List (Option S)) → v.origin ≡ Some o → Rests v → Final (Seen (Ruled stands value) id v) ws xs → IsStopped stands v ws xs
   closes id v o ws xs is rests f = let s = f.0 in let at = f.1.1 in
       let b = is_born stands value s id v o f.1.0 at is in let l = b.each id v at rests.0 in
       let deep : length v.seen ≤ length b.history = let p = l.seen in let e : length v.seen + length p.0 ≡ length b.history = sym (length-append v.seen p.0) ∙ ap length p.1 in omega arith in
