@@ -1,17 +1,18 @@
 -- From how the session of a desk ends to how a run ends.
-use Rattle.std.proofs.Common.{◌≡◌, ◌≢◌, ◌⊎◌, ℕ, List, Option, inl, inr, refl}
+use Rattle.std.proofs.Common.{ℕ, List, Option, inl, inr, sym, subst}
 use Rattle.std.specs.Io.KnownBytes.{Appends}
 use Rattle.gk_io.specs.Told.{AppendsFront}
 use Rattle.line_reader.specs.Lines.{with_lf}
-use Rattle.line_session.specs.Ends.{EndsFine, StopsBefore, BreaksOff}
+use Rattle.line_session.specs.Ends.{EndsFine, StopsBefore, BreaksOff, AtReadFault, AtLimit}
 use Rattle.policy_model.specs.History.{Opening}
 use Rattle.session_model.specs.Session.{State, Answers}
 use Rattle.desk_state.specs.Stands.{Stands}
 use Rattle.desk_state.specs.declared.desk.Desk.{Desk}
 use Rattle.desk_lines.specs.Answered.{HasAnswered}
 use Rattle.spctl_cli.specs.declared.status.Status.{Status}
-use Rattle.spctl_cli.specs.declared.status.Status.TheVariants.{Fine, Usage, ReadFault, WriteFault, SessionTooLong, OutOfMemory}
+use Rattle.spctl_cli.specs.declared.status.Status.TheVariants.{ReadFault, SessionTooLong}
 use Rattle.spctl_cli.specs.Headline.{IsSession}
+use Rattle.spctl_cli.specs.LastLines.{read_fault_text, too_long_text, IsEndedBy}
 use Rattle.spctl_cli.specs.Ends.{TellsFault, BreaksAtFault, SessionEnds}
 
 -- the replies of a desk that stood for the state s
@@ -66,7 +67,7 @@ session_breaks o s start desk stands left now written sent e = record {
 }
 
 -- and then the line of a fault
-pub session_tells : (Why : List (List ℕ) → List ℕ → Type 0) (text : List ℕ) (o : Opening) (s : State) (start desk : Desk) (stands : Stands start o s.history) (left now written mid sent : Option (List ℕ))
+session_tells : (Why : List (List ℕ) → List ℕ → Type 0) (text : List ℕ) (o : Opening) (s : State) (start desk : Desk) (stands : Stands start o s.history) (left now written mid sent : Option (List ℕ))
     → StopsBefore Why (HasAnswered start desk) left now written mid → Appends mid sent (with_lf text) → TellsFault Why text o s left now written sent
 session_tells Why text o s start desk stands left now written mid sent e put = record {
   replied = mid;
@@ -75,7 +76,7 @@ session_tells Why text o s start desk stands left now written mid sent e put = r
 }
 
 -- and then a front of the line of a fault
-pub session_cut : (Why : List (List ℕ) → List ℕ → Type 0) (text : List ℕ) (o : Opening) (s : State) (start desk : Desk) (stands : Stands start o s.history) (left now written mid sent : Option (List ℕ))
+session_cut : (Why : List (List ℕ) → List ℕ → Type 0) (text : List ℕ) (o : Opening) (s : State) (start desk : Desk) (stands : Stands start o s.history) (left now written mid sent : Option (List ℕ))
     → StopsBefore Why (HasAnswered start desk) left now written mid → AppendsFront mid sent (with_lf text) → BreaksAtFault Why text o s left now written sent
 session_cut Why text o s start desk stands left now written mid sent e put = record {
   replied = mid;
@@ -83,12 +84,18 @@ session_cut Why text o s start desk stands left now written mid sent e put = rec
   told = put;
 }
 
--- a session that neither failed nor ran past its limits ends well, or out of memory
-pub session_complete : (o : Opening) (s : State) (left now written sent : Option (List ℕ)) (status : Status) (R W : Type 0) → SessionEnds o s left now written sent status
-    → status ≢ SessionTooLong → (status ≡ ReadFault → R) → (status ≡ WriteFault → W) → (R → ⊥) → (W → ⊥) → (status ≡ Fine) ⊎ (status ≡ OutOfMemory)
-session_complete o s left now written sent Fine R W e within read write r w = inl refl
-session_complete o s left now written sent Usage R W e within read write r w = absurd e
-session_complete o s left now written sent ReadFault R W e within read write r w = absurd (r (read refl))
-session_complete o s left now written sent WriteFault R W e within read write r w = absurd (w (write refl))
-session_complete o s left now written sent SessionTooLong R W e within read write r w = absurd (within refl)
-session_complete o s left now written sent OutOfMemory R W e within read write r w = inr refl
+-- a session whose source failed, and the line that tells of it
+pub read_fault_ends : (o : Opening) (s : State) (start desk : Desk) (stands : Stands start o s.history) (left now written mid sent : Option (List ℕ)) (ended : Status)
+    → StopsBefore AtReadFault (HasAnswered start desk) left now written mid → IsEndedBy ReadFault (with_lf read_fault_text) mid sent ended → SessionEnds o s left now written sent ended
+read_fault_ends o s start desk stands left now written mid sent ended e (inl whole) =
+    subst (SessionEnds o s left now written sent) (sym whole.0) (session_tells AtReadFault read_fault_text o s start desk stands left now written mid sent e whole.1)
+read_fault_ends o s start desk stands left now written mid sent ended e (inr front) =
+    subst (SessionEnds o s left now written sent) (sym front.0) (inr (inl (session_cut AtReadFault read_fault_text o s start desk stands left now written mid sent e front.1)))
+
+-- a session that ran past its limits, and the line that tells of it
+pub too_long_ends : (o : Opening) (s : State) (start desk : Desk) (stands : Stands start o s.history) (left now written mid sent : Option (List ℕ)) (ended : Status)
+    → StopsBefore AtLimit (HasAnswered start desk) left now written mid → IsEndedBy SessionTooLong (with_lf too_long_text) mid sent ended → SessionEnds o s left now written sent ended
+too_long_ends o s start desk stands left now written mid sent ended e (inl whole) =
+    subst (SessionEnds o s left now written sent) (sym whole.0) (session_tells AtLimit too_long_text o s start desk stands left now written mid sent e whole.1)
+too_long_ends o s start desk stands left now written mid sent ended e (inr front) =
+    subst (SessionEnds o s left now written sent) (sym front.0) (inr (inr (session_cut AtLimit too_long_text o s start desk stands left now written mid sent e front.1)))

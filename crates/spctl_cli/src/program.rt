@@ -13,11 +13,11 @@ ghost use Rattle.spctl_cli.specs.Headline.{IsSession};
 ghost use Rattle.spctl_cli.specs.Ends.{RunEnds, SessionEnds, UsageEnds, GavePast};
 
 use crate::command::{Command, command_of};
-use crate::last_line::write_last;
+use crate::last_line::end_with;
 use crate::status::Status;
 use desk_lines::session_lines;
 use desk_state::Desk;
-use gk_io::{Failed, Sink, Source};
+use gk_io::{Sink, Source};
 use line_session::Ended;
 use std::alloc::Global;
 
@@ -101,14 +101,8 @@ fn session<S: Source, W: Sink>(alloc: Global, input: &mut S, output: &mut W) -> 
         Ended::Fine => Status::Fine,
         Ended::WriteFault => Status::WriteFault,
         Ended::OutOfMemory => Status::OutOfMemory,
-        Ended::ReadFault => match write_last(output, b"fault ReadFault") {
-            Ok(()) => Status::ReadFault,
-            Err(Failed) => Status::WriteFault,
-        },
-        Ended::TooLong => match write_last(output, b"fault SessionTooLong") {
-            Ok(()) => Status::SessionTooLong,
-            Err(Failed) => Status::WriteFault,
-        },
+        Ended::ReadFault => end_with(output, b"fault ReadFault", Status::ReadFault),
+        Ended::TooLong => end_with(output, b"fault SessionTooLong", Status::SessionTooLong),
     }
 }
 
@@ -123,11 +117,9 @@ fn usage<W: Sink>(output: &mut W) -> Status
     ensures write_steady { result ≢ Status.WriteFault → W.faults output.new ≡ W.faults output.old }
     ensures output_later { W.faults output.old ≤ W.faults output.new }
 {
-    match write_last(
+    end_with(
         output,
         b"usage: gatekeeper [--facts NAME] STORE COMMAND [WORDS]",
-    ) {
-        Ok(()) => Status::Usage,
-        Err(Failed) => Status::WriteFault,
-    }
+        Status::Usage,
+    )
 }
