@@ -1,2 +1,3 @@
-pub mod MovedLemmas
-pub mod SentLemmas
+pub mod BytesMove
+pub mod SentPieceByPiece
+pub mod WholeFile

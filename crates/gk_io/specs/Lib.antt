@@ -1,3 +1,5 @@
 pub mod Faults
 pub mod Told
+pub mod Shelf
+pub mod Clock
 pub mod Memory

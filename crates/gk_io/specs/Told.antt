@@ -15,6 +15,12 @@ abbrev pub IsFlushed : Option (List ℕ) → Option (List ℕ) → Type 0
 IsFlushed None written = ⊤
 IsFlushed (Some bytes) written = written ≡ Some bytes
 
+-- the flushed bytes are a front of those that were written, where the sink tells both
+abbrev pub IsFrontFlushed : Option (List ℕ) → Option (List ℕ) → Type 0
+IsFrontFlushed None written = ⊤
+IsFrontFlushed (Some bytes) None = ⊤
+IsFrontFlushed (Some bytes) (Some all) = (rest : List ℕ) × (all ≡ bytes ++ rest)
+
 -- a front of the bytes was appended, and the rest wasn't
 pub record Sent (old new : Option (List ℕ)) (bytes rest : List ℕ) : Type 0 where
   pub front : List ℕ

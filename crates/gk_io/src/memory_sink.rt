@@ -3,7 +3,7 @@
 ghost use Rattle.std.specs.Prelude.{◌≡◌, ◌≤◌, ◌<◌, ◌+◌, ◌⊎◌, ◌↔◌, Some, List, [], OnOk, OnErr, IfOk, IsErr, Contains, is_ok, is_some, length, vec_capacity, if◌then◌else◌};
 ghost use Rattle.std.specs.Io.KnownBytes.{Keeps};
 ghost use Rattle.gk_io.specs.Faults.{Rose, counted};
-ghost use Rattle.gk_io.specs.Told.{IsFlushed, PutAppends};
+ghost use Rattle.gk_io.specs.Told.{IsFlushed, IsFrontFlushed, PutAppends};
 
 use crate::call_numbers::CallNumbers;
 use crate::fault::Failed;
@@ -83,13 +83,17 @@ impl Sink for MemorySink {
     fn put(&mut self, bytes: &[u8]) -> Result<(), Failed>
         ensures bytes { PutAppends (Some (sink_written self.old)) (Some (sink_written self.new)) result bytes.now }
         ensures keeps { Keeps (Some (sink_flushed self.old)) (Some (sink_flushed self.new)) }
+        ensures front { IsFrontFlushed (Some (sink_flushed self.old)) (Some (sink_written self.old))
+            → IsFrontFlushed (Some (sink_flushed self.new)) (Some (sink_written self.new)) }
         ensures telling { is_some (Some (sink_written self.new)) ≡ is_some (Some (sink_written self.old)) }
         ensures flushed_telling { is_some (Some (sink_flushed self.new)) ≡ is_some (Some (sink_flushed self.old)) }
         ensures later { sink_faults self.old ≤ sink_faults self.new }
         ensures cause { OnErr result (Rose (sink_faults self.old) (sink_faults self.new)) }
         ensures steady { OnOk result (sink_faults self.new ≡ sink_faults self.old) }
 
-        // The calls that fail are those that were named and those of too many bytes, and each is counted.
+        // A call that fails writes nothing. Those that fail are the named ones and those of too many bytes, and each
+        // is counted.
+        ensures whole { OnErr result (sink_written self.new ≡ sink_written self.old) }
         ensures fails { IsErr result ↔ (Contains (sink_failing self.old) (counted (sink_calls self.old))
             ⊎ (sink_room self.old < length (sink_written self.old) + length bytes.now)) }
         ensures failing { sink_failing self.new ≡ sink_failing self.old }
@@ -113,13 +117,16 @@ impl Sink for MemorySink {
     fn flush(&mut self) -> Result<(), Failed>
         ensures bytes { Keeps (Some (sink_written self.old)) (Some (sink_written self.new)) }
         ensures flushes { OnOk result (IsFlushed (Some (sink_flushed self.new)) (Some (sink_written self.new))) }
+        ensures front { IsFrontFlushed (Some (sink_flushed self.old)) (Some (sink_written self.old))
+            → IsFrontFlushed (Some (sink_flushed self.new)) (Some (sink_written self.new)) }
         ensures telling { is_some (Some (sink_written self.new)) ≡ is_some (Some (sink_written self.old)) }
         ensures flushed_telling { is_some (Some (sink_flushed self.new)) ≡ is_some (Some (sink_flushed self.old)) }
         ensures later { sink_faults self.old ≤ sink_faults self.new }
         ensures cause { OnErr result (Rose (sink_faults self.old) (sink_faults self.new)) }
         ensures steady { OnOk result (sink_faults self.new ≡ sink_faults self.old) }
 
-        // The calls that fail are those that were named, and each is counted.
+        // A call that fails flushes nothing. Those that fail are the named ones, and each is counted.
+        ensures kept { sink_flushed self.new ≡ (if is_ok result then sink_written self.old else sink_flushed self.old) }
         ensures fails { IsErr result ↔ Contains (sink_failing self.old) (counted (sink_calls self.old)) }
         ensures failing { sink_failing self.new ≡ sink_failing self.old }
         ensures room { sink_room self.new ≡ sink_room self.old }

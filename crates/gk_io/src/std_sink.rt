@@ -3,7 +3,7 @@
 ghost use Rattle.std.specs.Prelude.{◌≡◌, ◌≤◌, ℕ, List, None, OnOk, OnErr, is_some};
 ghost use Rattle.std.specs.Io.KnownBytes.{Keeps};
 ghost use Rattle.gk_io.specs.Faults.{Rose};
-ghost use Rattle.gk_io.specs.Told.{IsFlushed, PutAppends};
+ghost use Rattle.gk_io.specs.Told.{IsFlushed, IsFrontFlushed, PutAppends};
 
 use crate::fault::Failed;
 use crate::sink::Sink;
@@ -46,6 +46,7 @@ impl<W: Write> Sink for StdSink<W> {
     fn put(&mut self, bytes: &[u8]) -> Result<(), Failed>
         ensures bytes { PutAppends None None result bytes.now }
         ensures keeps { Keeps None None }
+        ensures front { IsFrontFlushed None None → IsFrontFlushed None None }
         ensures telling { is_some {T = List ℕ} None ≡ is_some {T = List ℕ} None }
         ensures flushed_telling { is_some {T = List ℕ} None ≡ is_some {T = List ℕ} None }
         ensures later { self.old.faults ≤ self.new.faults }
@@ -76,6 +77,7 @@ impl<W: Write> Sink for StdSink<W> {
     fn flush(&mut self) -> Result<(), Failed>
         ensures bytes { Keeps None None }
         ensures flushes { OnOk result (IsFlushed None None) }
+        ensures front { IsFrontFlushed None None → IsFrontFlushed None None }
         ensures telling { is_some {T = List ℕ} None ≡ is_some {T = List ℕ} None }
         ensures flushed_telling { is_some {T = List ℕ} None ≡ is_some {T = List ℕ} None }
         ensures later { self.old.faults ≤ self.new.faults }

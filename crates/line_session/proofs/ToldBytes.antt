@@ -1,5 +1,8 @@
 -- Told bytes, call after call.
-use Rattle.std.proofs.Common.{◌≡◌, ℕ, List, [], ◌∷◌, ◌++◌, Option, None, Some, refl, sym, ap, ◌∙◌, append_assoc, subst}
+use Rattle.std.proofs.Common.{◌≡◌, ℕ, List, [], ◌∷◌, ◌++◌, Option, None, Some, Result, Ok, Err, length, refl, sym, ap, ◌∙◌, append_assoc, subst, arith}
+use Rattle.std.proofs.Math.Seq.{take-length}
+use Rattle.gk_io.specs.Told.{PutAppends}
+use Rattle.line_reader.specs.Lines.{with_lf}
 use Rattle.std.specs.Io.KnownBytes.{Keeps, Appends, Consumes, IsAtEnd, prepend_known}
 
 -- what was read and isn't handed on was lost too
@@ -28,3 +31,9 @@ put_kept None old new bytes h k = tt
 put_kept (Some us) None new bytes h k = absurd h
 put_kept (Some us) (Some vs) None bytes h k = absurd k
 put_kept (Some us) (Some vs) (Some ws) bytes h k = k ∙ h
+
+-- bytes that were put whole, and then flushed, whatever the flush came to
+pub put_then_flushed : {T E : Type 0} (r : Result T E) (old mid new : Option (List ℕ)) (put text : List ℕ) → put ≡ with_lf text → Appends old mid put → Keeps mid new → PutAppends old new r (with_lf text)
+put_then_flushed (Ok x) old mid new put text e h k = subst (Appends old new) e (put_kept old mid new put h k)
+put_then_flushed (Err x) old mid new put text e h k =
+    (length (with_lf text), omega arith, subst (Appends old new) (e ∙ sym (take-length (with_lf text))) (put_kept old mid new put h k))

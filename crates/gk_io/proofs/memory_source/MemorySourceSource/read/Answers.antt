@@ -1,4 +1,4 @@
-use Rattle.gk_io.proofs.MovedLemmas.{before_and_behind, none_left}
+use Rattle.gk_io.proofs.BytesMove.{before_and_behind, none_left}
 use Rattle.gk_io.proofs.memory_source.MemorySourceSource.read.Goals as goal
 
 pub returns-clause-bytes : goal.returns-clause-bytes

@@ -1,4 +1,4 @@
-use Rattle.gk_io.proofs.SentLemmas.{sent_more, sent_still, sent_front}
+use Rattle.gk_io.proofs.SentPieceByPiece.{sent_more, sent_still, sent_front}
 use Rattle.gk_io.proofs.std_sink.StdSinkSink.put.Goals as goal
 
 pub loop-rest-preserved-in-Ok : goal.loop-rest-preserved-in-Ok
