@@ -7,8 +7,6 @@ mod fault;
 pub mod laws;
 mod number;
 mod super_blob;
-#[cfg(test)]
-mod tests;
 mod writer;
 
 pub use blob::Blob;

@@ -13,8 +13,3 @@ pub use fault::SetFault;
 pub use req_blob::{OpsFault, decode, encode, reread, respell};
 pub use req_tree::{is_encodable, is_encodable_set};
 pub use round_trip::{reread_set, respell_set};
-
-#[cfg(test)]
-mod requirement_tests;
-#[cfg(test)]
-mod tests;

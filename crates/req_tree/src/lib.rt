@@ -18,8 +18,6 @@ mod shape;
 mod shared;
 mod spellable;
 mod subject;
-#[cfg(test)]
-mod tests;
 
 pub use fault::{OidBytesFault, OidFault};
 pub use hash::{Hash20, read_hash};
