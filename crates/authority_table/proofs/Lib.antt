@@ -1,2 +1,2 @@
-mod FoundLemmas
-mod PlacesLemmas
+mod OneFurther
+mod Places

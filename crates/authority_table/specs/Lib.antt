@@ -1,5 +1,6 @@
 pub mod Kind
 pub mod Label
+pub mod ShortReq
 pub mod Rank
 pub mod Rule
 pub mod Found

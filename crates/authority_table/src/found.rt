@@ -1,7 +1,6 @@
 //! The rule that decides an assessment, and the one that would were it enabled.
 
-ghost use Rattle.std.specs.Prelude.{◌≡◌, List, [], ◌∷◌, ◌++◌, Some, option_map};
-ghost use Rattle.std.specs.Option.{option_copied};
+ghost use Rattle.std.specs.Prelude.{◌≡◌, List, [], ◌∷◌, ◌++◌, nat_lt};
 ghost use Rattle.req_tree.specs.Facts.{no_facts};
 ghost use Rattle.req_tree.specs.Subject.{subject_of};
 ghost use Rattle.policy_model.specs.Rules as model;
@@ -10,6 +9,7 @@ ghost use Rattle.authority_table.specs.Kind.{kind_of};
 use crate::kind::Kind;
 use crate::moment::Moment;
 use crate::rule::Rule;
+use policy_model::laws::search_goes_on;
 use req_tree::Subject;
 
 /// What a search of the rules found.
@@ -30,30 +30,44 @@ impl<'a> Found<'a> {
         ensures { (rows : List model.Row) → IsFound rows (kind_of kind) (subject_of subject.now) no_facts at self.entry
             → IsFound (rows ++ row_of rule.now ∷ []) (kind_of kind) (subject_of subject.now) no_facts at result }
     {
-        if !rule.applies(kind, subject, at) {
-            self
-        } else if rule.is_enabled() {
+        search_goes_on();
+        if rule.is_enabled() {
             Found {
-                governing: Some(sooner(rule, self.governing)),
+                governing: first_of(self.governing, rule, kind, subject, at),
                 latent: self.latent,
             }
         } else {
             Found {
                 governing: self.governing,
-                latent: Some(sooner(rule, self.latent)),
+                latent: first_of(self.latent, rule, kind, subject, at),
             }
         }
     }
 }
 
 ghost use Rattle.authority_table.specs.Rule.{row_of};
+ghost use Rattle.authority_table.specs.Found.{row_found};
 
-/// Of a rule and one that was found before it, the one that is tried first.
-fn sooner<'a>(rule: &'a Rule, found: Option<&'a Rule>) -> &'a Rule
-    ensures { row_of result.now ≡ model.sooner (row_of rule.now) (option_map row_of (option_copied found.entry)) }
+/// The one that is tried first, of a rule that was found before and this one, if it applies. Whether it
+/// does is only asked where it would be tried before the other.
+fn first_of<'a>(
+    found: Option<&'a Rule>,
+    rule: &'a Rule,
+    kind: Kind,
+    subject: &Subject,
+    at: Moment,
+) -> Option<&'a Rule>
+    ensures { (rows : List model.Row)
+        → model.IsFirstOf (model.Meets (nat_lt 0 rule.now.disabled) (kind_of kind) (subject_of subject.now) no_facts at) rows (row_found found.entry)
+        → model.IsFirstOf (model.Meets (nat_lt 0 rule.now.disabled) (kind_of kind) (subject_of subject.now) no_facts at) (rows ++ row_of rule.now ∷ []) (row_found result) }
 {
+    search_goes_on();
     match found {
-        Some(best) if best.rank().before(&rule.rank()) => best,
-        _ => rule,
+        Some(best) if !rule.is_before(best) => found,
+        _ => if rule.applies(kind, subject, at) {
+            Some(rule)
+        } else {
+            found
+        },
     }
 }

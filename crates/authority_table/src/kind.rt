@@ -1,7 +1,7 @@
 //! What code is assessed for.
 
 /// The type of a rule and of an assessment, after `--type` of spctl(8).
-#[derive(Clone, Copy, Debug, Drop, PartialEq, Eq, Hash)]
+#[derive(Clone, Copy, Drop, PartialEq)]
 pub enum Kind {
     /// To be executed.
     Execute,

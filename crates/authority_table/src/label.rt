@@ -2,14 +2,16 @@
 
 ghost use Rattle.std.specs.Prelude.{◌≤◌};
 ghost use Rattle.arrayvec.specs.ArrayVec.{array_vec_len};
+ghost use Rattle.policy_model.specs.declared.limits.TheConstants.{MOST_LABEL_BYTES};
 
 use arrayvec::ArrayVec;
+use policy_model::limits::MOST_LABEL_BYTES;
 
 /// Up to 128 bytes of any kind, held in place.
-#[derive(Debug, Drop, PartialEq, Eq, Hash)]
+#[derive(Drop)]
 pub struct Label {
-    bytes: ArrayVec<u8, 128>,
-    pub ghost short: { array_vec_len bytes ≤ 128 },
+    bytes: ArrayVec<u8, MOST_LABEL_BYTES>,
+    pub ghost short: { array_vec_len bytes ≤ MOST_LABEL_BYTES },
 }
 
 impl Label {
@@ -26,10 +28,10 @@ impl Label {
     }
 
     pub fn of(bytes: &[u8]) -> Option<Label>
-        ensures fits { IsSome result ↔ (length bytes.now ≤ 128) }
+        ensures fits { IsSome result ↔ (length bytes.now ≤ MOST_LABEL_BYTES) }
         ensures bytes { IfSome result (λ label. label_bytes label ≡ bytes.now) }
     {
-        if bytes.len() <= 128 {
+        if bytes.len() <= MOST_LABEL_BYTES {
             Some(Label::holding(bytes))
         } else {
             None
@@ -45,14 +47,14 @@ impl Label {
 
     pub fn as_slice(&self) -> &[u8]
         ensures bytes { result.now ≡ label_bytes self.now }
-        ensures short { length result.now ≤ 128 }
+        ensures short { length result.now ≤ MOST_LABEL_BYTES }
     {
         self.bytes.as_slice()
     }
 
     /// The label of a caller that knows it to be short enough.
     pub fn holding(bytes: &[u8]) -> Label
-        requires { length bytes.now ≤ 128 }
+        requires { length bytes.now ≤ MOST_LABEL_BYTES }
         ensures { label_bytes result ≡ bytes.now }
     {
         let mut held = ArrayVec::new();

@@ -9,6 +9,7 @@ mod priority;
 mod rank;
 mod rule;
 mod rule_id;
+mod short_req;
 mod table;
 
 pub use found::Found;
@@ -19,4 +20,5 @@ pub use priority::Priority;
 pub use rank::Rank;
 pub use rule::Rule;
 pub use rule_id::RuleId;
+pub use short_req::ShortReq;
 pub use table::Table;

@@ -1,30 +1,31 @@
 //! A moment: whole seconds since the epoch.
 
 ghost use Rattle.std.specs.Prelude.{◌≡◌, ◌≤◌, ◌↔◌, IsSome, IfSome};
+ghost use Rattle.policy_model.specs.declared.limits.TheConstants.{GREATEST_MOMENT};
 
+use policy_model::limits::GREATEST_MOMENT;
 use std::marker::Model;
 
 /// Seconds from 0 to 253,402,300,799, which is the end of the year 9999.
-#[derive(Clone, Copy, Debug, Drop, PartialEq, Eq, PartialOrd, Ord, Hash)]
+#[derive(Clone, Copy, Drop, PartialEq, PartialOrd)]
 pub struct Moment {
     seconds: u64,
 }
 
 impl Model for Moment {
     ghost use Rattle.std.specs.Prelude.{ℕ, ◌≤◌};
+    ghost use Rattle.policy_model.specs.declared.limits.TheConstants.{GREATEST_MOMENT};
 
     ghost Value = { ℕ };
 
     ghost view = { λ m. m.seconds };
 
-    ghost invariant = { λ m. m.seconds ≤ 253402300799 };
+    ghost invariant = { λ m. m.seconds ≤ GREATEST_MOMENT };
 
     ghost inverse = { λ n. record { seconds = n } };
 }
 
 impl Moment {
-    pub const GREATEST: u64 = 253_402_300_799;
-
     /// The moment of the epoch.
     pub fn zero() -> Moment
         ensures { result ≡ 0 }
@@ -33,10 +34,10 @@ impl Moment {
     }
 
     pub fn of(seconds: u64) -> Option<Moment>
-        ensures fits { IsSome result ↔ (seconds ≤ 253402300799) }
+        ensures fits { IsSome result ↔ (seconds ≤ GREATEST_MOMENT) }
         ensures value { IfSome result (λ moment. moment ≡ seconds) }
     {
-        if seconds <= Moment::GREATEST {
+        if seconds <= GREATEST_MOMENT {
             Some(Moment { seconds })
         } else {
             None
@@ -45,7 +46,7 @@ impl Moment {
 
     pub fn get(self) -> u64
         ensures value { result ≡ self }
-        ensures fits { result ≤ 253402300799 }
+        ensures fits { result ≤ GREATEST_MOMENT }
     {
         self.seconds
     }

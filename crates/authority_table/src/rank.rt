@@ -7,19 +7,19 @@ use crate::priority::Priority;
 use crate::rule_id::RuleId;
 
 /// A rule's place among the rules.
-#[derive(Clone, Copy, Debug, Drop, PartialEq, Eq, Hash)]
+#[derive(Clone, Copy, Drop)]
 pub struct Rank {
     pub priority: Priority,
     pub id: RuleId,
 }
 
 impl Rank {
-    ghost use Rattle.authority_table.specs.Rank.{rank_of};
+    ghost use Rattle.authority_table.specs.Rank.{rank_view};
 
     /// Whether a rule of this rank is tried before one of the other: the higher priority comes
     /// first, and at equal priorities the lesser number.
     pub fn before(&self, other: &Rank) -> bool
-        ensures { IsTrue result ↔ Before (rank_of self.now) (rank_of other.now) }
+        ensures { IsTrue result ↔ Before (rank_view self.now) (rank_view other.now) }
     {
         self.priority > other.priority || (self.priority == other.priority && self.id < other.id)
     }

@@ -1,11 +1,14 @@
 //! A rule of the authority table.
 
-ghost use Rattle.std.specs.Prelude.{◌≡◌, ◌↔◌, IsTrue};
+ghost use Rattle.std.specs.Prelude.{◌≡◌, ◌↔◌, IsTrue, IfOk};
 ghost use Rattle.req_tree.specs.Facts.{no_facts};
+ghost use Rattle.req_tree.specs.Meaning.{mean};
 ghost use Rattle.req_tree.specs.Subject.{subject_of};
+ghost use Rattle.req_tree.specs.Subject as plain;
 ghost use Rattle.policy_model.specs.Rules.{Applies};
 ghost use Rattle.policy_model.specs.Rules as model;
 ghost use Rattle.authority_table.specs.Kind.{kind_of};
+ghost use Rattle.authority_table.specs.ShortReq.{short_mean};
 
 use crate::kind::Kind;
 use crate::label::Label;
@@ -13,41 +16,76 @@ use crate::moment::Moment;
 use crate::priority::Priority;
 use crate::rank::Rank;
 use crate::rule_id::RuleId;
+use crate::short_req::ShortReq;
 use req_tree::{Bytes, SharedReq, Subject};
+use std::alloc::{AllocError, Global};
 
 /// A requirement, and what is decided about code that meets it.
 #[derive(Drop)]
 pub struct Rule {
-    pub id: RuleId,
+    // what a search looks at stands in front
     pub kind: Kind,
     /// The verdict: acceptance, or denial.
     pub allow: bool,
-    /// How often it was disabled since it was last enabled; it is enabled at 0.
-    pub disabled: u32,
-    /// From this moment on it isn't in force.
-    pub expires: Option<Moment>,
-    pub priority: Priority,
     /// Carried and listed; it changes no verdict.
     pub is_default: bool,
     /// The outcome that it governs isn't kept.
     pub inhibit: bool,
-    pub label: Label,
+    /// How often it was disabled since it was last enabled; it is enabled at 0.
+    pub disabled: u32,
+    /// From this moment on it isn't in force.
+    pub expires: Option<Moment>,
+    /// What the requirement asks, where it is short.
+    pub short: ShortReq,
+    pub id: RuleId,
+    pub priority: Priority,
+    pub tree: SharedReq,
     /// The requirement as it was given.
     pub text: Bytes,
-    pub tree: SharedReq,
+    pub label: Label,
+    pub ghost short_is: { (subject : plain.Subject) → short_mean short tree subject ≡ mean tree subject no_facts },
 }
 
 impl Rule {
-    ghost use Rattle.authority_table.specs.Rank.{rank_of};
+    ghost use Rattle.authority_table.specs.Rank.{rank_view};
     ghost use Rattle.authority_table.specs.Rule.{row_of};
 
     pub fn rank(&self) -> Rank
-        ensures { rank_of result ≡ model.rank_of (row_of self.now) }
+        ensures { rank_view result ≡ model.rank_of (row_of self.now) }
     {
         Rank {
             priority: self.priority,
             id: self.id,
         }
+    }
+
+    /// Whether this rule is tried before the other.
+    pub fn is_before(&self, other: &Rule) -> bool
+        ensures { IsTrue result ↔ model.Before (model.rank_of (row_of self.now)) (model.rank_of (row_of other.now)) }
+    {
+        self.rank().before(&other.rank())
+    }
+
+    /// The same rule, which shares the requirement's tree.
+    pub fn copied(&self, alloc: Global) -> Result<Rule, AllocError>
+        ensures { IfOk result (λ rule. row_of rule ≡ row_of self.now) }
+    {
+        let text = Bytes::copy_of(alloc, self.text.as_slice())?;
+        let tree = self.tree.share()?;
+        Ok(Rule {
+            kind: self.kind,
+            allow: self.allow,
+            is_default: self.is_default,
+            inhibit: self.inhibit,
+            disabled: self.disabled,
+            expires: self.expires,
+            short: self.short,
+            id: self.id,
+            priority: self.priority,
+            tree,
+            text,
+            label: self.label.copied(),
+        })
     }
 
     pub fn is_enabled(&self) -> bool
@@ -63,7 +101,7 @@ impl Rule {
         let of_kind = self.kind == kind;
         let live = self.is_live(at);
         if of_kind && live {
-            self.tree.req().holds_without_facts(subject)
+            self.short.holds(&self.tree, subject)
         } else {
             false
         }

@@ -3,17 +3,19 @@
 ghost use Rattle.std.specs.Prelude.{◌≡◌, ◌<◌, ◌≤◌, ◌↔◌, [], ◌∷◌, ◌++◌, length, IsTrue, OnOk, OnErr};
 ghost use Rattle.req_tree.specs.Facts.{no_facts};
 ghost use Rattle.req_tree.specs.Subject.{subject_of};
+ghost use Rattle.policy_model.specs.declared.limits.TheConstants.{MOST_RULES};
 ghost use Rattle.authority_table.specs.Kind.{kind_of};
 
 use crate::found::Found;
 use crate::kind::Kind;
 use crate::moment::Moment;
 use crate::rule::Rule;
+use policy_model::limits::MOST_RULES;
 use req_tree::Subject;
 use std::alloc::{AllocError, Global};
 use std::marker::Model;
 
-/// Up to 10,000 rules.
+/// Up to `MOST_RULES` rules.
 #[derive(Drop)]
 pub struct Table {
     rules: Vec<Rule>,
@@ -21,6 +23,7 @@ pub struct Table {
 
 impl Model for Table {
     ghost use Rattle.std.specs.Prelude.{List, ◌≤◌, length};
+    ghost use Rattle.policy_model.specs.declared.limits.TheConstants.{MOST_RULES};
     ghost use Rattle.std.specs.Coded.{coded_list};
     ghost use Rattle.authority_table.specs.declared.rule.Rule.{Rule};
     ghost use Rattle.authority_table.specs.contracts.rule.Rule as rule_contract;
@@ -31,14 +34,12 @@ impl Model for Table {
 
     ghost view = { λ t. t.rules.items };
 
-    ghost invariant = { λ t. length t.rules.items ≤ 10000 };
+    ghost invariant = { λ t. length t.rules.items ≤ MOST_RULES };
 }
 
 impl Table {
     ghost use Rattle.authority_table.specs.Rule.{rows_of};
     ghost use Rattle.authority_table.specs.Found.{IsFound};
-
-    pub const ROOM: usize = 10_000;
 
     pub fn new(alloc: Global) -> Table
         ensures { result ≡ [] }
@@ -50,21 +51,21 @@ impl Table {
 
     pub fn count(&self) -> u32
         ensures count { result ≡ length self.now }
-        ensures room { result ≤ 10000 }
+        ensures room { result ≤ MOST_RULES }
     {
         self.rules.len() as u32
     }
 
     pub fn is_full(&self) -> bool
-        ensures full { IsTrue result ↔ (length self.now ≡ 10000) }
-        ensures room { length self.now ≤ 10000 }
+        ensures full { IsTrue result ↔ (length self.now ≡ MOST_RULES) }
+        ensures room { length self.now ≤ MOST_RULES }
     {
-        self.rules.len() == Table::ROOM
+        self.rules.len() == MOST_RULES
     }
 
     /// Adds a rule behind all others; where there is no memory, the table is as before.
     pub fn push(&mut self, rule: Rule) -> Result<(), AllocError>
-        requires { length self.old < 10000 }
+        requires { length self.old < MOST_RULES }
         ensures ok { OnOk result (self.new ≡ self.old ++ rule ∷ []) }
         ensures err { OnErr result (self.new ≡ self.old) }
     {

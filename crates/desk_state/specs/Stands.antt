@@ -1,9 +1,9 @@
 -- What a desk stands for: an opening, and what has happened since.
 use Rattle.std.specs.Prelude.{◌≡◌, ℕ, List, [], ◌∷◌, ◌++◌}
-use Rattle.req_tree.specs.Facts.{no_facts}
+use Rattle.req_tree.specs.Facts.{Facts, no_facts}
 use Rattle.authority_table.specs.Rule.{row_of, rows_of}
 use Rattle.policy_model.specs.Tables.{Tables}
-use Rattle.policy_model.specs.History.{Event, Opening, tables_of, now_of}
+use Rattle.policy_model.specs.History.{Event, Opening, tables_of, now_of, HasOwnIds, HasOwnKeys}
 use Rattle.authority_table.specs.declared.rule.Rule.{Rule}
 use Rattle.desk_state.specs.declared.receipt.Receipt.{Receipt}
 use Rattle.desk_state.specs.declared.desk.Desk.{Desk}
@@ -21,8 +21,19 @@ moment_of d = d.moment
 abbrev pub with_both : Rule → Receipt → Tables → Tables
 with_both rule receipt t = record { rows = t.rows ++ row_of rule ∷ []; receipts = t.receipts ++ receipt_of receipt ∷ []; enabled = t.enabled }
 
--- the desk is where the history h leads from the opening o, whose facts are none
+-- the facts that a desk knows of code: none are read yet
+abbrev pub facts_of : Desk → Facts
+facts_of d = no_facts
+
+-- where a desk may begin: ids are its own, keys differ, and no outcome is kept yet
+pub record IsSound (o : Opening) : Type 0 where
+  pub own_ids : HasOwnIds o.tables
+  pub own_keys : HasOwnKeys o.tables
+  pub no_entries : o.entries ≡ []
+
+-- the desk is where the history h leads from the sound opening o
 pub record Stands (d : Desk) (o : Opening) (h : List Event) : Type 0 where
+  pub sound : IsSound o
   pub tables_are : tables d ≡ tables_of o h
   pub now_is : moment_of d ≡ now_of o h
-  pub facts_are : o.facts ≡ no_facts
+  pub facts_are : facts_of d ≡ o.facts

@@ -2,12 +2,13 @@
 
 ghost use Rattle.std.specs.Prelude.{◌≡◌, ◌+◌, ◌≤◌, ◌++◌, length};
 ghost use Rattle.line_text.specs.LineText.{line_bytes};
+ghost use Rattle.line_text.specs.declared.limits.TheConstants.{FRONT_LIMIT, LINE_ROOM};
 ghost use Rattle.policy_model.specs.ReplyTexts.{answer_text, numbers_text};
 
 use req_tree::LineText;
 
 /// The answer to an edit that wasn't refused.
-#[derive(Clone, Copy, Debug, Drop, PartialEq, Eq)]
+#[derive(Clone, Copy, Drop)]
 pub struct Answer {
     /// The key was kept already, with the same content: nothing was changed.
     pub repeated: bool,
@@ -22,7 +23,7 @@ impl Answer {
 
     /// Appends the reply's line, without its end.
     pub fn line_into(&self, out: &mut LineText)
-        requires { length (line_bytes out.old) ≤ 400 }
+        requires { length (line_bytes out.old) ≤ FRONT_LIMIT }
         ensures text { line_bytes out.new ≡ line_bytes out.old ++ answer_text (answer_of self.now) }
         ensures length { length (line_bytes out.new) ≤ length (line_bytes out.old) + 100 }
     {
@@ -38,7 +39,7 @@ impl Answer {
 
 /// Appends an edit's number and how many rules it touched.
 pub(crate) fn numbers_into(number: u32, rules: u32, out: &mut LineText)
-    requires { length (line_bytes out.old) + 60 ≤ 1024 }
+    requires { length (line_bytes out.old) + 60 ≤ LINE_ROOM }
     ensures text { line_bytes out.new ≡ line_bytes out.old ++ numbers_text number rules }
     ensures length { length (line_bytes out.new) ≤ length (line_bytes out.old) + 60 }
 {

@@ -13,6 +13,7 @@ use crate::new_rule::NewRule;
 use crate::receipt::{Receipt, Receipts};
 use crate::verdict::{Origin, Verdict};
 use authority_table::{Found, Label, Moment, Rule, RuleId, Table};
+use policy_model::laws::{history_goes_on, ids_stay_own, keys_stay_own, one_outcome};
 use std::alloc::{AllocError, Global};
 
 /// Decides which code may be executed, installed or opened, by its rules.
@@ -25,14 +26,13 @@ pub struct Desk {
     /// The greatest moment that was handed in.
     moment: Moment,
     ghost own_ids: { HasOwnIds (record { rows = rows_of table; receipts = receipts_of receipts; enabled = enabled }) },
-    // each edit that is accepted adds one rule
-    ghost paired: { length table ≡ length receipts },
 }
 
 impl Desk {
     ghost use Rattle.req_tree.specs.Facts.{no_facts};
     ghost use Rattle.policy_model.specs.History.{Event, Opening, fresh, now_of, ask_answer, edit_answer};
     ghost use Rattle.policy_model.specs.History as event;
+    ghost use Rattle.policy_model.specs.declared.limits.TheConstants.{MOST_RULES, MOST_RECEIPTS};
     ghost use Rattle.policy_model.specs.Rules.{Kind};
     ghost use Rattle.policy_model.specs.Outcomes as policy;
     ghost use Rattle.policy_model.specs.Contents.{add};
@@ -43,15 +43,17 @@ impl Desk {
     ghost use Rattle.authority_table.specs.Label.{label_bytes};
     ghost use Rattle.authority_table.specs.Found.{governing_row, latent_row};
     ghost use Rattle.desk_state.specs.Ask.{ask_of};
-    ghost use Rattle.desk_state.specs.Edit.{edit_of, new_row};
-    ghost use Rattle.desk_state.specs.Answer.{given, IsDone};
+    ghost use Rattle.desk_state.specs.Edit.{edit_of, content_of, new_row};
+    ghost use Rattle.desk_state.specs.Answer.{given, refusal_in, IsDone};
     ghost use Rattle.desk_state.specs.Verdict.{verdict_of, origin_of};
-    ghost use Rattle.desk_state.specs.Stands.{tables, moment_of, with_both, Stands};
+    ghost use Rattle.desk_state.specs.Stands.{tables, moment_of, facts_of, with_both, Stands};
 
     /// A desk without rules, at moment 0, with assessments switched on.
     pub fn fresh(alloc: Global) -> Desk
         ensures { Stands result (fresh no_facts) [] }
     {
+        ids_stay_own();
+        keys_stay_own();
         Desk {
             table: Table::new(alloc),
             receipts: Receipts::new(alloc),
@@ -70,19 +72,22 @@ impl Desk {
         ensures stands { (o : Opening) (h : List Event) → Stands self.old o h → Stands self.new o (h ++ event.tick at ∷ []) }
         ensures legal { (o : Opening) (h : List Event) → Stands self.old o h → result ≡ now_of o (h ++ event.tick at ∷ []) }
     {
+        history_goes_on();
         self.moment = later(self.moment, at);
         self.moment
     }
 
     /// The verdict on an assessment that begins now.
     pub fn ask(&self, ask: &Ask) -> Verdict
-        ensures verdict { verdict_of result ≡ policy.verdict (tables self.now).rows (tables self.now).enabled no_facts (moment_of self.now) (ask_of ask.now) }
+        ensures verdict { verdict_of result ≡ policy.verdict (tables self.now).rows (tables self.now).enabled (facts_of self.now) (moment_of self.now) (ask_of ask.now) }
         ensures origin { origin_of result.origin ≡ origin_on (ask_of ask.now).subject }
 
         // After any history of this desk.
         ensures legal { (o : Opening) (h : List Event) → Stands self.now o h → verdict_of result ≡ ask_answer o h (ask_of ask.now) }
         ensures stands { (o : Opening) (h : List Event) → Stands self.now o h → Stands self.now o (h ++ event.ask (ask_of ask.now) ∷ []) }
     {
+        history_goes_on();
+        one_outcome();
         match &ask.subject {
             None => self.decided(
                 false,
@@ -153,7 +158,7 @@ impl Desk {
         ensures does { IsDone (does (tables self.old) (edit_of edit.now)) (tables self.old) (tables self.new) (given result) }
         ensures moment { moment_of self.new ≡ moment_of self.old }
 
-        // Want of memory comes in place of an acceptance alone.
+        // It is out of memory in place of an acceptance alone.
         ensures wanting { IsNone (given result) → IsAccepted (does (tables self.old) (edit_of edit.now)).answer }
 
         // After any history of this desk.
@@ -161,6 +166,7 @@ impl Desk {
         ensures stands { (o : Opening) (h : List Event) → IsSome (given result) → Stands self.old o h → Stands self.new o (h ++ event.edit (edit_of edit.now) ∷ []) }
         ensures unchanged { (o : Opening) (h : List Event) → IsNone (given result) → Stands self.old o h → Stands self.new o h }
     {
+        history_goes_on();
         match self.receipts.find(&edit.key) {
             Some(receipt) => at_kept(receipt, edit),
             None => self.accept(alloc, edit),
@@ -172,21 +178,32 @@ impl Desk {
         ensures moment { moment_of self.new ≡ moment_of self.old }
         ensures wanting { IsNone (given result) → IsAccepted (at_new (refusal (edit_of edit.now).content (tables self.old)) (edit_of edit.now) (tables self.old)).answer }
     {
-        if self.table.is_full() {
-            return Err(EditFault::TableFull);
+        match self.refusal(&edit.content) {
+            Some(fault) => Err(fault),
+            None => match &edit.content {
+                Content::Add(rule) => self.add(alloc, edit, rule),
+            },
         }
-        match &edit.content {
-            Content::Add(rule) => self.add(alloc, edit, rule),
+    }
+
+    /// Why an edit of this content is refused under a new key.
+    fn refusal(&self, content: &Content) -> Option<EditFault>
+        ensures { refusal_in result ≡ refusal (content_of content.now) (tables self.now) }
+    {
+        match content {
+            Content::Add(_) if self.table.is_full() => Some(EditFault::TableFull),
+            _ if self.receipts.is_full() => Some(EditFault::ReceiptsFull),
+            _ => None,
         }
     }
 
     fn add(&mut self, alloc: Global, edit: &Edit, new: &NewRule) -> Result<Answer, EditFault>
         requires content { (edit_of edit.now).content ≡ add (new_row new.now) }
-        requires room { length (tables self.old).rows < 10000 }
+        requires accepts { refusal (add (new_row new.now)) (tables self.old) ≡ None }
         ensures does { IsDone (at_new None (edit_of edit.now) (tables self.old)) (tables self.old) (tables self.new) (given result) }
         ensures moment { moment_of self.new ≡ moment_of self.old }
     {
-        let number = self.table.count() + 1;
+        let number = self.receipts.count() + 1;
         let rule = new.rule(alloc, RuleId::numbered(number))?;
         let content = edit.content.text(alloc)?;
         let receipt = Receipt {
@@ -205,7 +222,8 @@ impl Desk {
 
     /// Keeps a rule and its receipt, or neither.
     fn keep(&mut self, rule: Rule, receipt: Receipt) -> Result<(), AllocError>
-        requires room { length (tables self.old).rows < 10000 }
+        requires room { length (tables self.old).rows < MOST_RULES }
+        requires few { length (tables self.old).receipts < MOST_RECEIPTS }
         requires id { rule.id ≡ length (tables self.old).receipts + 1 }
         ensures ok { OnOk result (tables self.new ≡ with_both rule receipt (tables self.old)) }
         ensures err { OnErr result (tables self.new ≡ tables self.old) }

@@ -6,11 +6,12 @@ ghost use Rattle.policy_model.specs.Keys.{is_key};
 ghost use Rattle.policy_model.specs.Keys as words;
 
 use arrayvec::ArrayVec;
+use policy_model::limits::MOST_KEY_BYTES;
 
 /// 1 to 64 letters, digits, dots, underscores and dashes, held in place.
-#[derive(Debug, Drop, PartialEq, Eq, Hash)]
+#[derive(Drop)]
 pub struct EditKey {
-    bytes: ArrayVec<u8, 64>,
+    bytes: ArrayVec<u8, MOST_KEY_BYTES>,
     pub ghost key: { is_key bytes.items ≡ true },
 }
 
@@ -57,7 +58,7 @@ fn is_edit_key(bytes: &[u8]) -> bool
     ensures { IsTrue result ↔ IsTrue (is_key bytes.now) }
 {
     let some = 1 <= bytes.len();
-    let short = bytes.len() <= 64;
+    let short = bytes.len() <= MOST_KEY_BYTES;
     let plain = all_are_key_bytes(bytes);
     some && short && plain
 }

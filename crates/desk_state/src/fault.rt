@@ -2,13 +2,14 @@
 
 ghost use Rattle.std.specs.Prelude.{◌≡◌, ◌+◌, ◌≤◌, ◌++◌, length};
 ghost use Rattle.line_text.specs.LineText.{line_bytes};
+ghost use Rattle.line_text.specs.declared.limits.TheConstants.{FRONT_LIMIT};
 
 use crate::answer::numbers_into;
 use req_tree::LineText;
 use std::alloc::AllocError;
 
 /// Why an edit was not made: the first of these, in this order. The tables are as before.
-#[derive(Clone, Copy, Debug, Drop, PartialEq, Eq)]
+#[derive(Clone, Copy, Drop)]
 pub enum EditFault {
     /// Number 12: the key is kept with another content.
     KeyReused {
@@ -17,8 +18,10 @@ pub enum EditFault {
         /// How many rules it touched.
         rules: u32,
     },
-    /// Number 13: 10,000 rules are there.
+    /// Number 13: the table has no room for one rule more.
     TableFull,
+    /// Number 14: as many edits were accepted as ever can be.
+    ReceiptsFull,
     /// There was no memory for the rule or its receipt.
     OutOfMemory,
 }
@@ -37,9 +40,9 @@ impl From<AllocError> for EditFault {
 impl EditFault {
     ghost use Rattle.desk_state.specs.Answer.{refusal_of, given_text};
 
-    /// Appends the refusal's line, without its end; nothing for want of memory.
+    /// Appends the refusal's line, without its end; nothing where it is out of memory.
     pub fn line_into(&self, out: &mut LineText)
-        requires { length (line_bytes out.old) ≤ 400 }
+        requires { length (line_bytes out.old) ≤ FRONT_LIMIT }
         ensures text { line_bytes out.new ≡ line_bytes out.old ++ given_text (refusal_of self.now) }
         ensures length { length (line_bytes out.new) ≤ length (line_bytes out.old) + 100 }
     {
@@ -49,6 +52,7 @@ impl EditFault {
                 numbers_into(*number, *rules, out);
             }
             EditFault::TableFull => out.push_all(b"refused edit 13 TableFull"),
+            EditFault::ReceiptsFull => out.push_all(b"refused edit 14 ReceiptsFull"),
             EditFault::OutOfMemory => {}
         }
     }

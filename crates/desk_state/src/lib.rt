@@ -1,15 +1,15 @@
 //! The desk: what was asked of it and what it answers.
 #![tactic(auto)]
 
-mod answer;
-mod ask;
+pub mod answer;
+pub mod ask;
 mod desk;
-mod edit;
-mod edit_key;
-mod fault;
-mod new_rule;
+pub mod edit;
+pub mod edit_key;
+pub mod fault;
+pub mod new_rule;
 mod receipt;
-mod verdict;
+pub mod verdict;
 
 pub use answer::Answer;
 pub use ask::Ask;

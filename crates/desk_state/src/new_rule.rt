@@ -2,13 +2,14 @@
 
 ghost use Rattle.std.specs.Prelude.{◌≡◌, ◌+◌, ◌≤◌, ◌++◌, [], ◌∷◌, length, Some, IfOk};
 ghost use Rattle.line_text.specs.LineText.{line_bytes};
+ghost use Rattle.line_text.specs.declared.limits.TheConstants.{FRONT_LIMIT, LINE_ROOM};
 ghost use Rattle.std.specs.Coded.{Coded-set, coded_option};
 ghost use Rattle.req_tree.specs.TreeCode.{tree_code};
 ghost use Rattle.req_grammar.specs.Requirement.{IsRequirement, requirement};
 ghost use Rattle.policy_model.specs.Contents.{IsRuleText};
 ghost use Rattle.policy_model.specs.Texts.{add_front, verdict_word, expiry_text, flags_text};
 
-use authority_table::{Kind, Label, Moment, Priority, Rule, RuleId};
+use authority_table::{Kind, Label, Moment, Priority, Rule, RuleId, ShortReq};
 use req_tree::{Bytes, LineText, SharedReq};
 use std::alloc::{AllocError, Global};
 
@@ -41,23 +42,24 @@ impl NewRule {
         let text = Bytes::copy_of(alloc, self.text.as_slice())?;
         let tree = self.tree.share()?;
         Ok(Rule {
-            id,
             kind: self.kind,
             allow: self.allow,
-            disabled: 0,
-            expires: self.expires,
-            priority: self.priority,
             is_default: self.is_default,
             inhibit: self.inhibit,
-            label: self.label.copied(),
-            text,
+            disabled: 0,
+            expires: self.expires,
+            short: ShortReq::of(&tree),
+            id,
+            priority: self.priority,
             tree,
+            text,
+            label: self.label.copied(),
         })
     }
 
     /// Appends `add`, the kind, verdict, priority, expiry, label and flags, each with a space behind it.
     pub fn front_into(&self, out: &mut LineText)
-        requires { length (line_bytes out.old) ≤ 400 }
+        requires { length (line_bytes out.old) ≤ FRONT_LIMIT }
         ensures text { line_bytes out.new ≡ line_bytes out.old ++ add_front (new_row self.now) }
         ensures length { length (line_bytes out.new) ≤ length (line_bytes out.old) + 500 }
     {
@@ -85,7 +87,7 @@ fn verdict_word(allow: bool) -> &'static [u8]
 }
 
 fn expiry_into(expires: Option<Moment>, out: &mut LineText)
-    requires { length (line_bytes out.old) + 20 ≤ 1024 }
+    requires { length (line_bytes out.old) + 20 ≤ LINE_ROOM }
     ensures text { line_bytes out.new ≡ line_bytes out.old ++ expiry_text expires }
     ensures length { length (line_bytes out.new) ≤ length (line_bytes out.old) + 20 }
 {

@@ -1,11 +1,13 @@
 //! The receipts of accepted edits.
 
-ghost use Rattle.std.specs.Prelude.{◌≡◌, ◌-◌, [], ◌∷◌, ◌++◌, length, take, OnOk, OnErr, option_map};
+ghost use Rattle.std.specs.Prelude.{◌≡◌, ◌-◌, ◌<◌, ◌≤◌, ◌↔◌, [], ◌∷◌, ◌++◌, length, take, IsTrue, OnOk, OnErr, option_map};
 ghost use Rattle.std.specs.Option.{option_copied};
+ghost use Rattle.policy_model.specs.declared.limits.TheConstants.{MOST_RECEIPTS};
 ghost use Rattle.policy_model.specs.Edits.{kept};
 ghost use Rattle.desk_state.specs.EditKey.{key_bytes};
 
 use crate::edit_key::EditKey;
+use policy_model::limits::MOST_RECEIPTS;
 use req_tree::Bytes;
 use std::alloc::{AllocError, Global};
 use std::marker::Model;
@@ -20,19 +22,22 @@ pub struct Receipt {
     pub rules: u32,
 }
 
-/// The receipts in the order of their numbers.
+/// Up to `MOST_RECEIPTS` receipts, in the order of their numbers.
 #[derive(Drop)]
 pub struct Receipts {
     receipts: Vec<Receipt>,
 }
 
 impl Model for Receipts {
-    ghost use Rattle.std.specs.Prelude.{List};
+    ghost use Rattle.std.specs.Prelude.{List, ◌≤◌, length};
+    ghost use Rattle.policy_model.specs.declared.limits.TheConstants.{MOST_RECEIPTS};
     ghost use Rattle.desk_state.specs.declared.receipt.Receipt.{Receipt};
 
     ghost Value = { List Receipt };
 
     ghost view = { λ r. r.receipts.items };
+
+    ghost invariant = { λ r. length r.receipts.items ≤ MOST_RECEIPTS };
 }
 
 impl Receipts {
@@ -46,10 +51,18 @@ impl Receipts {
         }
     }
 
-    pub fn len(&self) -> usize
-        ensures { result ≡ length self.now }
+    pub fn count(&self) -> u32
+        ensures count { result ≡ length self.now }
+        ensures room { result ≤ MOST_RECEIPTS }
     {
-        self.receipts.len()
+        self.receipts.len() as u32
+    }
+
+    pub fn is_full(&self) -> bool
+        ensures full { IsTrue result ↔ (length self.now ≡ MOST_RECEIPTS) }
+        ensures room { length self.now ≤ MOST_RECEIPTS }
+    {
+        self.receipts.len() == MOST_RECEIPTS as usize
     }
 
     /// The receipt that is kept for a key.
@@ -66,6 +79,7 @@ impl Receipts {
 
     /// Adds a receipt behind all others; where there is no memory, nothing changes.
     pub fn push(&mut self, receipt: Receipt) -> Result<(), AllocError>
+        requires { length self.old < MOST_RECEIPTS }
         ensures ok { OnOk result (self.new ≡ self.old ++ receipt ∷ []) }
         ensures err { OnErr result (self.new ≡ self.old) }
     {

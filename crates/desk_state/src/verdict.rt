@@ -2,6 +2,7 @@
 
 ghost use Rattle.std.specs.Prelude.{◌≡◌, ◌+◌, ◌≤◌, ◌++◌, length};
 ghost use Rattle.line_text.specs.LineText.{line_bytes};
+ghost use Rattle.line_text.specs.declared.limits.TheConstants.{FRONT_LIMIT, LINE_ROOM};
 ghost use Rattle.policy_model.specs.ReplyTexts.{verdict_text, number_text, accepted_text, override_text, origin_text, fate_text, fate_by};
 
 use authority_table::{Label, Moment, RuleId};
@@ -25,7 +26,7 @@ pub struct Verdict {
 }
 
 /// Where a verdict comes from.
-#[derive(Clone, Copy, Debug, Drop, PartialEq, Eq)]
+#[derive(Clone, Copy, Drop)]
 pub enum Origin {
     /// The rules were looked at.
     Rules,
@@ -40,7 +41,7 @@ impl Verdict {
 
     /// Appends the reply's line, without its end.
     pub fn line_into(&self, out: &mut LineText)
-        requires { length (line_bytes out.old) ≤ 400 }
+        requires { length (line_bytes out.old) ≤ FRONT_LIMIT }
         ensures text { line_bytes out.new ≡ line_bytes out.old ++ verdict_text (verdict_of self.now) (origin_of self.now.origin) (fate_by (origin_of self.now.origin)) }
         ensures length { length (line_bytes out.new) ≤ length (line_bytes out.old) + 620 }
     {
@@ -108,7 +109,7 @@ fn override_word(overridden: bool) -> &'static [u8]
 }
 
 fn number_into(id: Option<RuleId>, out: &mut LineText)
-    requires { length (line_bytes out.old) + 20 ≤ 1024 }
+    requires { length (line_bytes out.old) + 20 ≤ LINE_ROOM }
     ensures text { line_bytes out.new ≡ line_bytes out.old ++ number_text id }
     ensures length { length (line_bytes out.new) ≤ length (line_bytes out.old) + 20 }
 {

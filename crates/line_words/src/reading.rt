@@ -10,7 +10,7 @@ ghost use Rattle.authority_table.specs.Kind.{kind_of};
 
 use crate::number::read_number;
 use authority_table::{Kind, Moment, Priority};
-use policy_model::limits::UNIT;
+use policy_model::limits::{GREATEST_MOMENT, UNIT};
 use req_tree::Identifier;
 use session_model::limits::{
     GREATEST_PLATFORM, GREATEST_UNITS, MOMENT_DIGITS, PLATFORM_DIGITS, PRIORITY_DIGITS,
@@ -19,7 +19,7 @@ use session_model::limits::{
 pub fn read_moment(word: &[u8]) -> Option<Moment>
     ensures { result ≡ moment_word word.now }
 {
-    Moment::of(read_number(word, MOMENT_DIGITS, Moment::GREATEST)?)
+    Moment::of(read_number(word, MOMENT_DIGITS, GREATEST_MOMENT)?)
 }
 
 /// A moment, or `Some(None)` for the word `never`.

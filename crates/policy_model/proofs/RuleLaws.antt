@@ -162,14 +162,14 @@ last_later P rs x s not' f = record {
   first = all_more (λ r. P r → Before (rank_of r) (rank_of s) → ⊥) rs x f.first not';
 }
 
-last_of_two : (P : Row → Type 0) (rs : List Row) (x s : Row) (c : Bool) → is_before (rank_of s) (rank_of x) ≡ c → IsFirst P rs s → P x → IsFirst P (rs ++ x ∷ []) (if c then s else x)
-last_of_two P rs x s true e f p = last_later P rs x s (λ q b. before_asym (rank_of x) (rank_of s) b (test_before (rank_of s) (rank_of x) e)) f
-last_of_two P rs x s false e f p = last_sooner P rs x s e f p
+last_ahead : (P : Row → Type 0) (rs : List Row) (x s : Row) (c : Bool) → is_before (rank_of s) (rank_of x) ≡ c → IsFirst P rs s → P x → Before (rank_of x) (rank_of s) → IsFirst P (rs ++ x ∷ []) x
+last_ahead P rs x s true e f p ahead = absurd (before_asym (rank_of x) (rank_of s) ahead (test_before (rank_of s) (rank_of x) e))
+last_ahead P rs x s false e f p ahead = last_sooner P rs x s e f p
 
--- one that has the property
-pub passes_last : (P : Row → Type 0) (rs : List Row) (x : Row) (o : Option Row) → IsFirstOf P rs o → P x → IsFirstOf P (rs ++ x ∷ []) (Some (sooner x o))
-passes_last P rs x None none p = last_first P rs x none p
-passes_last P rs x (Some s) f p = last_of_two P rs x s (is_before (rank_of s) (rank_of x)) refl f p
+-- one that has the property, and is before the row that was found
+pub finds_last : (P : Row → Type 0) (rs : List Row) (x : Row) (o : Option Row) → IsFirstOf P rs o → P x → IfSome o (λ s. Before (rank_of x) (rank_of s)) → IsFirstOf P (rs ++ x ∷ []) (Some x)
+finds_last P rs x None none p ahead = last_first P rs x none p
+finds_last P rs x (Some s) f p ahead = last_ahead P rs x s (is_before (rank_of s) (rank_of x)) refl f p ahead
 
 -- one that hasn't
 pub fails_last : (P : Row → Type 0) (rs : List Row) (x : Row) (o : Option Row) → IsFirstOf P rs o → (P x → ⊥) → IsFirstOf P (rs ++ x ∷ []) o

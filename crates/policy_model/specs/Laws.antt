@@ -1,9 +1,9 @@
 -- What follows from the definitions alone; each is proved on a function of src/laws.rt.
-use Rattle.std.specs.Prelude.{◌≡◌, ◌≢◌, ℕ, ◌*◌, ◌-◌, ◌^◌, ◌<◌, ◌≤◌, List, [], ◌∷◌, ◌++◌, All, length, Bool, Option, Some}
+use Rattle.std.specs.Prelude.{◌≡◌, ◌≢◌, ℕ, ◌*◌, ◌-◌, ◌^◌, ◌<◌, ◌≤◌, List, [], ◌∷◌, ◌++◌, All, length, Bool, Option, Some, IfSome}
 use Rattle.req_tree.specs.Subject.{Subject}
 use Rattle.req_tree.specs.Facts.{Facts}
 use Rattle.req_tree.specs.NumericOrder.{number_of}
-use Rattle.policy_model.specs.Rules.{Row, Kind, rank_of, Before, Meets, IsFirstOf, Governs, IsLatent, sooner}
+use Rattle.policy_model.specs.Rules.{Row, Kind, rank_of, Before, Meets, IsFirstOf, Governs, IsLatent}
 use Rattle.policy_model.specs.Outcomes.{Outcome, outcome, outcome_by}
 use Rattle.policy_model.specs.declared.limits.TheConstants.{UNIT}
 use Rattle.policy_model.specs.Contents.{Edit}
@@ -52,11 +52,11 @@ abbrev pub OutcomeIsOne : Type 0
 OutcomeIsOne = (t : Tables) → HasOwnIds t → (kind : Kind) (subject : Subject) (facts : Facts) (m : ℕ) (o : Outcome) →
     IsOutcome t.rows kind subject facts m o → o ≡ outcome t.rows kind subject facts m
 
--- a search that goes on by one more row at the end: a row that meets the condition is found, unless one before it was
+-- a search that goes on by one more row at the end: it finds the row, if it meets the condition and is before the row that was found
 abbrev pub FindsNext : Type 0
 FindsNext = (disabled : Bool) (kind : Kind) (subject : Subject) (facts : Facts) (m : ℕ) (rows : List Row) (r : Row) (found : Option Row) →
-    IsFirstOf (Meets disabled kind subject facts m) rows found → Meets disabled kind subject facts m r →
-    IsFirstOf (Meets disabled kind subject facts m) (rows ++ r ∷ []) (Some (sooner r found))
+    IsFirstOf (Meets disabled kind subject facts m) rows found → Meets disabled kind subject facts m r → IfSome found (λ s. Before (rank_of r) (rank_of s)) →
+    IsFirstOf (Meets disabled kind subject facts m) (rows ++ r ∷ []) (Some r)
 
 -- a row that doesn't meet it changes nothing
 abbrev pub PassesOver : Type 0

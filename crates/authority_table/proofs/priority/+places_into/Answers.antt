@@ -1,7 +1,7 @@
 use Rattle.std.proofs.Common.{arith}
 use Rattle.std.proofs.lemmas.Grind.{common_steps}
 use Rattle.std.proofs.lemmas.Bool.Decides.{nat_tests}
-use Rattle.authority_table.proofs.PlacesLemmas.{no_places, nothing_left, one_place}
+use Rattle.authority_table.proofs.Places.{no_places, nothing_left, one_place}
 use Rattle.authority_table.proofs.priority.+places_into.Goals as goal
 use Rattle.authority_table.proofs.priority.+places_into.Goals.{else-count-gt0-via-then-count-gt0+else-part-gt0, else-count-gt0-via-else-count-gt0}
 

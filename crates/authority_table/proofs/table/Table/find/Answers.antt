@@ -1,5 +1,5 @@
 use Rattle.std.proofs.Common.{rules}
-use Rattle.authority_table.proofs.FoundLemmas.{one_further}
+use Rattle.authority_table.proofs.OneFurther.{one_further}
 use Rattle.authority_table.proofs.table.Table.find.Goals as goal
 
 pub loop-rule-preserved : goal.loop-rule-preserved

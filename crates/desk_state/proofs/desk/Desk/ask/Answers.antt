@@ -7,16 +7,16 @@ use Rattle.desk_state.proofs.StandsLemmas.{stands_more, verdict_found, standing_
 use Rattle.desk_state.proofs.desk.Desk.ask.Goals as goal
 
 pub returns-in-None-clause-stands : goal.returns-in-None-clause-stands
-returns-in-None-clause-stands c = stands_more _ _ (ask (ask_of c.args.ask.now)) refl refl
+returns-in-None-clause-stands c = stands_more c.history_goes_on.ensures.tables c.history_goes_on.ensures.moment _ _ (ask (ask_of c.args.ask.now)) refl refl
 
 pub returns-in-Some-clause-verdict : goal.returns-in-Some-clause-verdict
 returns-in-Some-clause-verdict c =
-    verdict_found c.args.self.now (ask_of c.args.ask.now) (subject_of c.in-Some.subject) c.find.result _ c.args.self.now.own_ids (ap (option_map subject_of) c.in-Some.is) c.find.ensures c.by_rules.ensures.verdict
+    verdict_found c.one_outcome.ensures.outcome c.args.self.now (ask_of c.args.ask.now) (subject_of c.in-Some.subject) c.find.result _ c.args.self.now.own_ids (ap (option_map subject_of) c.in-Some.is) c.find.ensures c.by_rules.ensures.verdict
 
 pub returns-in-Some-clause-legal : goal.returns-in-Some-clause-legal
 returns-in-Some-clause-legal c = λ o h s.
-    verdict_found c.args.self.now (ask_of c.args.ask.now) (subject_of c.in-Some.subject) c.find.result _ c.args.self.now.own_ids (ap (option_map subject_of) c.in-Some.is) c.find.ensures c.by_rules.ensures.verdict
+    verdict_found c.one_outcome.ensures.outcome c.args.self.now (ask_of c.args.ask.now) (subject_of c.in-Some.subject) c.find.result _ c.args.self.now.own_ids (ap (option_map subject_of) c.in-Some.is) c.find.ensures c.by_rules.ensures.verdict
     ∙ standing_answer c.args.self.now (ask_of c.args.ask.now) o h s
 
 pub returns-in-Some-clause-stands : goal.returns-in-Some-clause-stands
-returns-in-Some-clause-stands c = stands_more _ _ (ask (ask_of c.args.ask.now)) refl refl
+returns-in-Some-clause-stands c = stands_more c.history_goes_on.ensures.tables c.history_goes_on.ensures.moment _ _ (ask (ask_of c.args.ask.now)) refl refl

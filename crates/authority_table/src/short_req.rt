@@ -1,0 +1,48 @@
+//! A requirement that is short enough to stand in its rule.
+
+ghost use Rattle.std.specs.Prelude.{◌≡◌};
+ghost use Rattle.req_tree.specs.Facts.{no_facts};
+ghost use Rattle.req_tree.specs.Meaning.{mean};
+ghost use Rattle.req_tree.specs.Subject.{subject_of};
+ghost use Rattle.req_tree.specs.Subject as plain;
+ghost use Rattle.authority_table.specs.ShortReq.{short_mean};
+
+use req_tree::{Hash20, Req, SharedReq, Subject};
+
+/// What a rule's requirement asks, held in place where it is short: a search of many rules needn't follow
+/// the pointer to each tree.
+#[derive(Clone, Copy, Drop)]
+pub enum ShortReq {
+    Always,
+    Never,
+    /// The hash of the code.
+    CdHash(Hash20),
+    /// It isn't short: its tree has to be asked.
+    Long,
+}
+
+impl ShortReq {
+    /// What the tree asks.
+    pub fn of(tree: &SharedReq) -> ShortReq
+        ensures { (subject : plain.Subject) → short_mean result tree.now subject ≡ mean tree.now subject no_facts }
+    {
+        match tree.req() {
+            Req::Always => ShortReq::Always,
+            Req::Never => ShortReq::Never,
+            Req::CdHash { hash } => ShortReq::CdHash(*hash),
+            _ => ShortReq::Long,
+        }
+    }
+
+    /// Whether the requirement, whose tree this is, holds of the subject.
+    pub fn holds(&self, tree: &SharedReq, subject: &Subject) -> bool
+        ensures { result ≡ short_mean self.now tree.now (subject_of subject.now) }
+    {
+        match self {
+            ShortReq::Always => true,
+            ShortReq::Never => false,
+            ShortReq::CdHash(hash) => subject.cdhash == *hash,
+            ShortReq::Long => tree.req().holds_without_facts(subject),
+        }
+    }
+}

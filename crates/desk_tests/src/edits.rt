@@ -1,0 +1,115 @@
+//! What a desk answers to edits and assessments, as it is printed.
+use crate::made::{ask, edit, new_rule, subject};
+use authority_table::Moment;
+use desk_state::{Answer, Content, Desk, Edit, EditFault, Verdict};
+use req_tree::LineText;
+use std::alloc::Global;
+use std::test::Fail;
+
+fn answers(answer: &Result<Answer, EditFault>, text: &[u8]) -> bool {
+    let mut out = LineText::new();
+    match answer {
+        Ok(answer) => answer.line_into(&mut out),
+        Err(fault) => fault.line_into(&mut out),
+    }
+    out.as_slice() == text
+}
+
+fn prints(verdict: &Verdict, text: &[u8]) -> bool {
+    let mut out = LineText::new();
+    verdict.line_into(&mut out);
+    out.as_slice() == text
+}
+
+fn refusal_prints(fault: EditFault, text: &[u8]) -> bool {
+    let mut out = LineText::new();
+    fault.line_into(&mut out);
+    out.as_slice() == text
+}
+
+fn made(alloc: Global, desk: &mut Desk, edit: &Edit, text: &[u8]) -> bool {
+    let answer = desk.edit(alloc, edit);
+    answers(&answer, text)
+}
+
+// a key acts once, and other contents under it are refused
+fn one_key(alloc: Global) -> Option<bool> {
+    let mut desk = Desk::fresh(alloc);
+    let allow = edit(alloc, b"k1", true)?;
+    let deny = edit(alloc, b"k1", false)?;
+    let first = made(alloc, &mut desk, &allow, b"ok edit=1 rules=1");
+    let again = made(alloc, &mut desk, &allow, b"repeated edit=1 rules=1");
+    let other = made(
+        alloc,
+        &mut desk,
+        &deny,
+        b"refused edit 12 KeyReused edit=1 rules=1",
+    );
+    Some(first && again && other)
+}
+
+// the rule that an edit added decides until it ends
+fn one_rule(alloc: Global) -> Option<bool> {
+    let mut desk = Desk::fresh(alloc);
+    let none = prints(
+        &desk.ask(&ask(subject())),
+        b"rejected at=0 rule=none latent=none label=no%20matching%20rule override=none source=rules cache=off",
+    );
+    let added = made(
+        alloc,
+        &mut desk,
+        &edit(alloc, b"k1", true)?,
+        b"ok edit=1 rules=1",
+    );
+    let first = desk.tick(Moment::of(999)?).get() == 999;
+    let decides = prints(
+        &desk.ask(&ask(subject())),
+        b"accepted at=999 rule=1 latent=none label=a%20b override=none source=rules cache=off",
+    );
+    let second = desk.tick(Moment::of(1000)?).get() == 1000;
+    let ended = prints(
+        &desk.ask(&ask(subject())),
+        b"rejected at=1000 rule=none latent=none label=no%20matching%20rule override=none source=rules cache=off",
+    );
+    let unsigned = prints(
+        &desk.ask(&ask(None)),
+        b"rejected at=1000 rule=none latent=none label=no%20usable%20signature override=none source=unsigned cache=none",
+    );
+    Some(none && added && first && decides && second && ended && unsigned)
+}
+
+// the canonical text of an edit, which is told again
+fn one_text(alloc: Global) -> Option<bool> {
+    let content = Content::Add(new_rule(alloc, true)?);
+    let text = content.text(alloc).ok()?;
+    let line = b"add execute allow 20.5 1000 a%20b default+inhibit always";
+    Some(text.as_slice() == line.as_slice() && content.is(line))
+}
+
+#[test]
+fn a_key_acts_once(rt: HostRuntime) -> Result<(), Fail> {
+    assert!(rt; one_key(rt.alloc()) == Some(true));
+    Ok(())
+}
+
+#[test]
+fn an_added_rule_decides_until_it_ends(rt: HostRuntime) -> Result<(), Fail> {
+    assert!(rt; one_rule(rt.alloc()) == Some(true));
+    Ok(())
+}
+
+#[test]
+fn an_edit_has_its_canonical_text(rt: HostRuntime) -> Result<(), Fail> {
+    assert!(rt; one_text(rt.alloc()) == Some(true));
+    Ok(())
+}
+
+#[test]
+fn refusals_are_printed(rt: HostRuntime) -> Result<(), Fail> {
+    assert!(rt;
+        refusal_prints(EditFault::TableFull, b"refused edit 13 TableFull")
+            && refusal_prints(EditFault::ReceiptsFull, b"refused edit 14 ReceiptsFull")
+            && refusal_prints(EditFault::OutOfMemory, b"")
+    );
+    Ok(())
+}

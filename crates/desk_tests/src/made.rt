@@ -1,0 +1,53 @@
+//! Rules, edits and asks that the tests hand in.
+use authority_table::{Kind, Label, Moment, Priority};
+use desk_state::{Ask, Content, Edit, EditKey, NewRule};
+use req_tree::{Bytes, Hash20, Identifier, Req, SharedReq, Subject};
+use std::alloc::Global;
+
+/// A rule for what is executed that always means true.
+pub fn new_rule(alloc: Global, allow: bool) -> Option<NewRule> {
+    let priority = Priority::of(20_500_000)?;
+    let expires = Moment::of(1000)?;
+    let label = Label::of(b"a b")?;
+    let tree = SharedReq::new(alloc, Req::Always).ok()?;
+    let text = Bytes::copy_of(alloc, b"always").ok()?;
+    Some(NewRule {
+        kind: Kind::Execute,
+        allow,
+        priority,
+        expires: Some(expires),
+        label,
+        is_default: true,
+        inhibit: true,
+        text,
+        tree,
+    })
+}
+
+/// The edit that adds it.
+pub fn edit(alloc: Global, key: &[u8], allow: bool) -> Option<Edit> {
+    let key = EditKey::of(key)?;
+    let rule = new_rule(alloc, allow)?;
+    Some(Edit {
+        key: key.copied(),
+        content: Content::Add(rule),
+    })
+}
+
+pub fn subject() -> Option<Subject> {
+    let identifier = Identifier::of(b"com.example.app")?;
+    Some(Subject {
+        cdhash: Hash20 { bytes: [17; 20] },
+        identifier,
+        platform: 0,
+    })
+}
+
+pub fn ask(subject: Option<Subject>) -> Ask {
+    let ask = Ask {
+        kind: Kind::Execute,
+        subject,
+        keep: true,
+    };
+    ask.copied()
+}

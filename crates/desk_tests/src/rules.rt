@@ -1,0 +1,54 @@
+//! Rules that are copied, kept and found.
+use crate::made::{new_rule, subject};
+use authority_table::{Found, Kind, Moment, Rule, RuleId, Table};
+use std::alloc::Global;
+use std::test::Fail;
+
+fn rule(alloc: Global, number: u32, disabled: u32) -> Option<Rule> {
+    let id = RuleId::of(number)?;
+    let mut rule = new_rule(alloc, true)?.rule(alloc, id).ok()?;
+    rule.disabled = disabled;
+    rule.copied(alloc).ok()
+}
+
+fn is_found(found: Option<&Rule>, number: u32) -> bool {
+    match found {
+        None => false,
+        Some(rule) => rule.id.get() == number && rule.text.as_slice() == b"always".as_slice(),
+    }
+}
+
+fn kept(alloc: Global, table: &mut Table, number: u32, disabled: u32) -> Option<()> {
+    let rule = rule(alloc, number, disabled)?;
+    if table.is_full() {
+        return None;
+    }
+    table.push(rule).ok()
+}
+
+// the older of two rules governs, and the disabled one is latent
+fn both_found(alloc: Global) -> Option<bool> {
+    let mut table = Table::new(alloc);
+    kept(alloc, &mut table, 1, 7)?;
+    kept(alloc, &mut table, 2, 0)?;
+    kept(alloc, &mut table, 3, 0)?;
+    let subject = subject()?;
+    let found = table.find(Kind::Execute, &subject, Moment::zero());
+    let other = table.find(Kind::Install, &subject, Moment::zero());
+    Some(
+        table.count() == 3
+            && is_found(found.governing, 2)
+            && is_found(found.latent, 1)
+            && finds_none(other),
+    )
+}
+
+fn finds_none(found: Found<'_>) -> bool {
+    found.governing.is_none() && found.latent.is_none()
+}
+
+#[test]
+fn the_rule_that_governs_is_found(rt: HostRuntime) -> Result<(), Fail> {
+    assert!(rt; both_found(rt.alloc()) == Some(true));
+    Ok(())
+}
