@@ -16,8 +16,6 @@ mod source;
 mod std_sink;
 mod std_source;
 mod system_clock;
-#[cfg(test)]
-mod tests;
 mod whole_file;
 
 pub use call_numbers::CallNumbers;

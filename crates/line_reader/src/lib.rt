@@ -7,8 +7,6 @@ pub mod laws;
 mod limits;
 mod line_read;
 mod reader;
-#[cfg(test)]
-mod tests;
 
 pub use limits::{SESSION_BYTES, SESSION_LINES};
 pub use line_read::LineRead;

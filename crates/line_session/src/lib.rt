@@ -7,8 +7,6 @@ mod line;
 mod reply;
 mod responder;
 mod session;
-#[cfg(test)]
-mod tests;
 
 pub use ended::Ended;
 pub use limits::REPLY_LIMIT;

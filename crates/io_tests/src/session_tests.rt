@@ -2,8 +2,8 @@
 
 ghost use Rattle.std.specs.Prelude.{ℕ, List, None};
 
-use super::{Ended, Responder, run_session};
 use gk_io::{CallNumbers, Failed, MemorySink, MemorySource, Sink, Source};
+use line_session::{Ended, Responder, run_session};
 use line_text::LineText;
 use std::alloc::{AllocError, Global};
 use std::test::Fail;
@@ -71,10 +71,10 @@ impl Source for Trickle {
     }
 }
 
-// Counts the bytes that are written, and keeps none.
+// Counts the calls that write, and keeps no bytes.
 #[derive(Drop)]
 struct Count {
-    bytes: u64,
+    puts: u64,
 }
 
 impl Sink for Count {
@@ -82,8 +82,8 @@ impl Sink for Count {
 
     ghost faults = { λ _. 0 };
 
-    fn put(&mut self, bytes: &[u8]) -> Result<(), Failed> {
-        self.bytes = self.bytes.saturating_add(bytes.len() as u64);
+    fn put(&mut self, _bytes: &[u8]) -> Result<(), Failed> {
+        self.puts = self.puts.saturating_add(1);
         Ok(())
     }
 
@@ -126,16 +126,22 @@ fn is_read_fault(
     Ok(is)
 }
 
+fn all_read_faults(alloc: Global) -> Result<bool, AllocError> {
+    for (call, written, answers) in READ_FAILS {
+        if !is_read_fault(alloc, call, written, answers)? {
+            return Ok(false);
+        }
+    }
+    Ok(true)
+}
+
 #[test]
 fn each_read_fails_in_turn(rt: HostRuntime) -> Result<(), Fail> {
-    for (call, written, answers) in READ_FAILS {
-        let is = is_read_fault(rt.alloc(), call, written, answers)?;
-        assert!(rt; is, "at {call}");
-    }
+    assert!(rt; all_read_faults(rt.alloc())?);
     Ok(())
 }
 
-// The call that fails, what is written before it, and how many lines were answered.
+// The call that fails, as the next one would, what is written before it, and how many lines were answered.
 const WRITE_FAILS: [(u64, &[u8], u64); 6] = [
     (1, b"", 1),
     (2, b"a\n", 1),
@@ -152,22 +158,33 @@ fn is_write_fault(
     answers: u64,
 ) -> Result<bool, AllocError> {
     let bytes = b"a\nb\nc".to_vec(alloc)?;
-    let mut output = MemorySink::with_room(alloc, 100, failing(alloc, call)?)?;
+    let mut calls = failing(alloc, call)?;
+    calls.push(call.saturating_add(1))?;
+    let mut output = MemorySink::with_room(alloc, 100, calls)?;
     let mut input = MemorySource::new(bytes, CallNumbers::new(alloc));
     let mut echo = Echo { answers: 0 };
     let ended = run_session(alloc, &mut echo, &mut input, &mut output);
     drop(input);
-    let is = ended == Ended::WriteFault && output.written() == written && echo.answers == answers;
+    let is = ended == Ended::WriteFault
+        && output.written() == written
+        && output.faults() == 1
+        && echo.answers == answers;
     drop(output);
     Ok(is)
 }
 
-#[test]
-fn each_write_fails_in_turn(rt: HostRuntime) -> Result<(), Fail> {
+fn all_write_faults(alloc: Global) -> Result<bool, AllocError> {
     for (call, written, answers) in WRITE_FAILS {
-        let is = is_write_fault(rt.alloc(), call, written, answers)?;
-        assert!(rt; is, "at {call}");
+        if !is_write_fault(alloc, call, written, answers)? {
+            return Ok(false);
+        }
     }
+    Ok(true)
+}
+
+#[test]
+fn each_write_fails_in_turn_and_the_sink_is_called_no_more(rt: HostRuntime) -> Result<(), Fail> {
+    assert!(rt; all_write_faults(rt.alloc())?);
     Ok(())
 }
 
@@ -205,13 +222,20 @@ fn is_echoed_in_pieces(alloc: Global, bytes: &[u8], written: &[u8]) -> Result<bo
     is
 }
 
+fn all_are_echoed(alloc: Global) -> Result<bool, AllocError> {
+    for (bytes, written) in FINE {
+        if !is_echoed_whole(alloc, bytes, written)?
+            || !is_echoed_in_pieces(alloc, bytes, written)?
+        {
+            return Ok(false);
+        }
+    }
+    Ok(true)
+}
+
 #[test]
 fn each_line_has_its_reply_whatever_the_pieces(rt: HostRuntime) -> Result<(), Fail> {
-    for (bytes, written) in FINE {
-        let whole = is_echoed_whole(rt.alloc(), bytes, written)?;
-        let pieces = is_echoed_in_pieces(rt.alloc(), bytes, written)?;
-        assert!(rt; whole && pieces);
-    }
+    assert!(rt; all_are_echoed(rt.alloc())?);
     Ok(())
 }
 
@@ -223,17 +247,25 @@ const LIMITS: [(u8, usize, Ended, u64); 4] = [
     (b'x', 268_435_457, Ended::TooLong, 0),
 ];
 
-#[test]
-fn a_session_ends_at_its_limits(rt: HostRuntime) -> Result<(), Fail> {
-    let alloc = rt.alloc();
+fn is_limited(alloc: Global, byte: u8, left: usize, ended: Ended, answers: u64) -> bool {
+    let mut echo = Echo { answers: 0 };
+    let mut input = Same { byte, left };
+    let mut output = Count { puts: 0 };
+    run_session(alloc, &mut echo, &mut input, &mut output) == ended
+        && echo.answers == answers
+        && output.puts == answers
+}
+
+fn all_are_limited(alloc: Global) -> bool {
     for (byte, left, ended, answers) in LIMITS {
-        let mut echo = Echo { answers: 0 };
-        let mut output = Count { bytes: 0 };
-        assert_eq!(rt;
-            run_session(alloc, &mut echo, &mut Same { byte, left }, &mut output),
-            ended
-        );
-        assert_eq!(rt; echo.answers, answers, "of {left} bytes {byte}");
+        if !is_limited(alloc, byte, left, ended, answers) {
+            return false;
+        }
     }
-    Ok(())
+    true
+}
+
+#[test]
+fn a_session_ends_at_its_limits_and_each_reply_is_one_write(rt: HostRuntime) {
+    assert!(rt; all_are_limited(rt.alloc()));
 }
