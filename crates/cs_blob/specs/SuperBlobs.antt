@@ -3,6 +3,7 @@
 -- This project's own: at most 64 parts; each begins behind the index and ends within the super-blob; no
 -- two share a byte or have one type. Between parts there may be gaps.
 use Rattle.std.specs.Prelude.{ℕ, ◌≡◌, ◌≢◌, ◌+◌, ◌*◌, ◌<◌, ◌≤◌, List, length, take, drop, ◌⊎◌, None, Some}
+use Rattle.cs_blob.specs.declared.limits.TheConstants.{MOST_PARTS}
 use Rattle.cs_blob.specs.Numbers.{number_at}
 use Rattle.cs_blob.specs.Blobs.{IsBlob, blob_fault}
 use Rattle.cs_blob.specs.declared.fault.BlobFault.{BlobFault}
@@ -53,7 +54,7 @@ pub record IsFine (whole : List ℕ) (index : ℕ) : Type 0 where
 -- the index is whole and has at most 64 entries
 pub record HasIndex (whole : List ℕ) : Type 0 where
   pub counted : 12 ≤ length whole
-  pub few : count_of whole ≤ 64
+  pub few : count_of whole ≤ MOST_PARTS
   pub fits : index_end whole ≤ length whole
 
 -- the bytes are one super-blob of this magic
@@ -70,10 +71,10 @@ pub record AreFineTo (whole : List ℕ) (index : ℕ) : Type 0 where
 
 -- the first that is wrong with the index of a blob
 abbrev pub IndexFails : List ℕ → BlobFault → Type 0
-IndexFails whole Short = (length whole < 12) ⊎ ((12 ≤ length whole) × (count_of whole ≤ 64) × (length whole < index_end whole))
+IndexFails whole Short = (length whole < 12) ⊎ ((12 ≤ length whole) × (count_of whole ≤ MOST_PARTS) × (length whole < index_end whole))
 IndexFails whole BadMagic = ⊥
 IndexFails whole BadLength = ⊥
-IndexFails whole TooManyParts = (12 ≤ length whole) × (64 < count_of whole)
+IndexFails whole TooManyParts = (12 ≤ length whole) × (MOST_PARTS < count_of whole)
 IndexFails whole (PartOutside index) = AreFineTo whole index × (IsInside whole index → ⊥)
 IndexFails whole (PartTwice index) = AreFineTo whole index × IsInside whole index × ((earlier : ℕ) × (earlier < index) × (kind_at whole earlier ≡ kind_at whole index))
 IndexFails whole (PartOverlap index) =

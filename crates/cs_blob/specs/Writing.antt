@@ -5,6 +5,7 @@ use Rattle.std.specs.List.{list_any}
 use Rattle.cs_blob.specs.Numbers.{word}
 use Rattle.cs_blob.specs.Blobs.{IsSized}
 use Rattle.cs_blob.specs.SuperBlobs.{count_of, kind_at, part_at}
+use Rattle.cs_blob.specs.declared.limits.TheConstants.{GREATEST_SIZE, MOST_PARTS}
 use Rattle.cs_blob.specs.declared.fault.WriterFault.{WriterFault}
 use Rattle.cs_blob.specs.declared.fault.WriterFault.TheVariants.{PartTwice, TooManyParts, TooLong}
 
@@ -30,8 +31,8 @@ total_of parts = 12 + 8 * length parts + length (body_bytes parts)
 abbrev pub add_fault : List (ℕ × List ℕ) → ℕ → List ℕ → Option WriterFault
 add_fault parts kind part =
     if has_kind parts kind then Some PartTwice
-    else (if nat_le 64 (length parts) then Some TooManyParts
-    else (if nat_lt 16777216 (total_of (parts ++ (kind, part) ∷ [])) then Some TooLong else None))
+    else (if nat_le MOST_PARTS (length parts) then Some TooManyParts
+    else (if nat_lt GREATEST_SIZE (total_of (parts ++ (kind, part) ∷ [])) then Some TooLong else None))
 
 -- the entries of the index, where the parts begin at an offset
 abbrev pub index_bytes : ℕ → List (ℕ × List ℕ) → List ℕ
@@ -52,8 +53,8 @@ AreParts (part ∷ parts) = IsSized part.1 × (part.0 < 2 ^ 32) × (has_kind par
 -- what a writer may hold: parts for one super-blob, within the limits of their number and size
 pub record IsDraft (parts : List (ℕ × List ℕ)) : Type 0 where
   pub sound : AreParts parts
-  pub few : length parts ≤ 64
-  pub short : total_of parts ≤ 16777216
+  pub few : length parts ≤ MOST_PARTS
+  pub short : total_of parts ≤ GREATEST_SIZE
 
 -- the super-blob has just these parts, in this order
 pub record Holds (parts : List (ℕ × List ℕ)) (whole : List ℕ) : Type 0 where

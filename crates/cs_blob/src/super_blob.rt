@@ -3,11 +3,13 @@
 ghost use Rattle.std.specs.Prelude.{◌≡◌, ◌≢◌, ◌+◌, ◌*◌, ◌<◌, ◌≤◌, ◌↔◌, ◌++◌, ℕ, List, length, IfOk, IfErr, IsTrue, IsOkAnd, MatchOption, MatchResult};
 ghost use Rattle.std.specs.Prelude.{◌^◌};
 ghost use Rattle.std.specs.Bool.{MatchBool};
+ghost use Rattle.cs_blob.specs.declared.limits.TheConstants.{MOST_PARTS};
 ghost use Rattle.cs_blob.specs.SuperBlobs as spec;
 ghost use Rattle.cs_blob.specs.SuperBlobs.{HasIndex, IsInside, Overlap, IsFine, AreFineTo, IsSuperBlob, IndexFails, SuperFails, IsPartOf, count_of, offset_at, length_at, part_at};
 
 use crate::blob::Blob;
 use crate::fault::BlobFault;
+use crate::limits::MOST_PARTS;
 use crate::number::number;
 use std::marker::Model;
 
@@ -52,7 +54,7 @@ impl<'a> SuperBlob<'a> {
     /// How many parts there are.
     pub fn count(&self) -> u32
         ensures value { result ≡ count_of self.now.whole }
-        ensures few { result ≤ 64 }
+        ensures few { result ≤ MOST_PARTS }
     {
         number(self.whole, 8)
     }
@@ -101,7 +103,7 @@ fn check_index(whole: &[u8]) -> Result<(), BlobFault>
         return Err(BlobFault::Short);
     }
     let count = number(whole, 8);
-    if count > 64 {
+    if count as usize > MOST_PARTS {
         return Err(BlobFault::TooManyParts);
     }
     if whole.len() < 12 + 8 * count as usize {

@@ -9,14 +9,11 @@ ghost use Rattle.cs_blob.specs.Writing.{add_fault, written, index_bytes, body_by
 ghost use Rattle.cs_blob.specs.Numbers.{word};
 
 use crate::fault::WriterFault;
+use crate::limits::{GREATEST_SIZE, MOST_PARTS};
 use byteorder::{BigEndian, ByteOrder};
 use req_tree::Bytes;
 use std::alloc::{AllocError, Global};
 use std::marker::Model;
-
-/// The greatest number of bytes of a super-blob that is written: 16 MiB.
-const GREATEST_SIZE: usize = 16_777_216;
-
 /// Parts under their types, in the order in which they were added.
 #[derive(Debug, Drop)]
 pub struct SuperWriter {
@@ -59,7 +56,7 @@ impl SuperWriter {
         if has_kind(&self.parts, kind) {
             return Err(WriterFault::PartTwice);
         }
-        if self.parts.len() >= 64 {
+        if self.parts.len() >= MOST_PARTS {
             return Err(WriterFault::TooManyParts);
         }
         if self.size + 8 + part.len() > GREATEST_SIZE {

@@ -1,3 +1,5 @@
+pub mod LawsBelow
+pub mod OneSetFault
 pub mod SetParts
 pub mod SetLaws
 pub mod SetWritten

@@ -7,13 +7,12 @@ use Rattle.req_tree.specs.Tree.{Tree}
 use Rattle.req_tree.specs.TreeSet.{TreeSet, part_of}
 use Rattle.cs_blob.specs.SuperBlobs.{IsSuperBlob, IsPartOf, Overlap, count_of, index_end, kind_at, part_at, offset_at, length_at}
 use Rattle.cs_blob.specs.Writing.{total_of}
-use Rattle.cs_blob.proofs.WriterLemmas.{total-more, length-written}
 use Rattle.req_blob.specs.Spelling.{IsSpelling, plain, plain_blob}
-use Rattle.req_blob.proofs.Blobs.{length-requirement}
-use Rattle.req_blob.proofs.Plain.{spelled_size}
 use Rattle.req_ops.specs.Sets.{set_magic, IsSetSpelling}
 use Rattle.req_ops.specs.SetEncoding.{part_under, parts_below, plain_set}
+use Rattle.req_ops.proofs.LawsBelow.{AsLong, HasTotal, length-requirement}
 use Rattle.req_ops.proofs.SetSpelled.{has_set_kind}
+use Rattle.req_ops.proofs.SetWritten.{total-more}
 use Rattle.req_ops.proofs.Spans.{Span, total, Apart, Inside, ApartFrom, AllApart, have_room}
 
 -- ---- the bytes of some entries: of each its place in the index, and its part
@@ -29,9 +28,6 @@ IsOther i (j ∷ js) = (i ≢ j) × IsOther i js
 abbrev AreEntries : List ℕ → List ℕ → Type 0
 AreEntries bytes [] = Unit {0}
 AreEntries bytes (i ∷ is) = (i < count_of bytes) × IsOther i is × AreEntries bytes is
-
-index_fits : (bytes : List ℕ) (i : ℕ) → IsSuperBlob set_magic bytes → i < count_of bytes → 20 + 8 * i ≤ index_end bytes
-index_fits bytes i blob among = omega (arith, among)
 
 entry_before : (bytes : List ℕ) (i j : ℕ) → IsSuperBlob set_magic bytes → i < count_of bytes → j < count_of bytes → 20 + 8 * i ≤ offset_at bytes j
 entry_before bytes i j blob ai aj =
@@ -128,14 +124,14 @@ part_size bytes i blob among =
     let ends : offset_at bytes i + length_at bytes i ≤ length bytes = (blob.fine i among).inside.ends in
     omega (arith, length-take (length_at bytes i) (drop (offset_at bytes i) bytes), length-drop (offset_at bytes i) bytes, ends)
 
-spelled_blob_size : (tree : Tree) (part : List ℕ) → IsSpelling tree part → length part ≡ length (plain_blob tree)
-spelled_blob_size tree part is =
+spelled_blob_size : AsLong → (tree : Tree) (part : List ℕ) → IsSpelling tree part → length part ≡ length (plain_blob tree)
+spelled_blob_size long tree part is =
     let size : length part ≡ 12 + length is.expression = ap length is.blob ∙ length-requirement is.expression in
-    omega (arith, size, spelled_size tree is.expression is.spelled, length-requirement (plain tree))
+    omega (arith, size, long tree is.expression is.spelled, length-requirement (plain tree))
 
-entries_to : (s : TreeSet) (bytes : List ℕ) → IsSetSpelling s bytes → (kind : ℕ) → Entries s bytes kind
-entries_to s bytes is zero = record { entries = []; are = tt; low = tt; size = refl }
-entries_to s bytes is (suc kind) = by_part (part_of kind s) refl (entries_to s bytes is kind)
+entries_to : AsLong → (s : TreeSet) (bytes : List ℕ) → IsSetSpelling s bytes → (kind : ℕ) → Entries s bytes kind
+entries_to long s bytes is zero = record { entries = []; are = tt; low = tt; size = refl }
+entries_to long s bytes is (suc kind) = by_part (part_of kind s) refl (entries_to long s bytes is kind)
   where
     told : (tree : Tree) → part_of kind s ≡ Some tree → (part : List ℕ) × IsPartOf bytes kind part × IsSpelling tree part
     told tree some =
@@ -153,7 +149,7 @@ entries_to s bytes is (suc kind) = by_part (part_of kind s) refl (entries_to s b
         let i : ℕ = h.1.0 in
         let among : i < count_of bytes = h.1.1 in
         let at : kind_at bytes i ≡ kind = h.1.2 in
-        let size : length_at bytes i ≡ length (plain_blob tree) = sym (part_size bytes i is.blob among) ∙ ap length (sym h.1.3) ∙ spelled_blob_size tree h.0 h.2 in
+        let size : length_at bytes i ≡ length (plain_blob tree) = sym (part_size bytes i is.blob among) ∙ ap length (sym h.1.3) ∙ spelled_blob_size long tree h.0 h.2 in
         let more : total_of (parts_below (suc kind) s) ≡ total_of (parts_below kind s) + (8 + length (plain_blob tree)) =
         ap total_of (ap (λ (o : Option Tree). parts_below kind s ++ part_under kind o) some) ∙ total-more (parts_below kind s) kind (plain_blob tree) in
         record {
@@ -164,11 +160,11 @@ entries_to s bytes is (suc kind) = by_part (part_of kind s) refl (entries_to s b
         }
 
 -- the plain bytes of a set are no more than any others that spell it
-pub plain_is_short : (s : TreeSet) (bytes : List ℕ) → IsSetSpelling s bytes → length (plain_set s) ≤ length bytes
+pub plain_is_short : AsLong → HasTotal → (s : TreeSet) (bytes : List ℕ) → IsSetSpelling s bytes → length (plain_set s) ≤ length bytes
 unfolding plain_set
-plain_is_short s bytes is =
-    let all = entries_to s bytes is 6 in
+plain_is_short long has_total s bytes is =
+    let all = entries_to long s bytes is 6 in
     let counted : 12 ≤ length bytes = is.blob.indexed.counted in
     let room = have_room (spans_of bytes all.entries) 12 (length bytes) counted (entries_inside bytes all.entries is.blob all.are) (entries_apart bytes all.entries is.blob all.are) in
-    let size : length (plain_set s) ≡ total_of (parts_below 6 s) = length-written (record { magic = set_magic; parts = parts_below 6 s }) in
+    let size : length (plain_set s) ≡ total_of (parts_below 6 s) = has_total (record { magic = set_magic; parts = parts_below 6 s }) in
     omega (arith, room, size, all.size)

@@ -11,15 +11,16 @@ use Rattle.req_tree.specs.TreeSet.{TreeSet, IsSetKind, part_of}
 use Rattle.cs_blob.specs.SuperBlobs.{IsSuperBlob, IsPartOf, count_of, kind_at}
 use Rattle.cs_blob.specs.Writing.{Draft, Holds, written}
 use Rattle.req_blob.specs.declared.fault.OpsFault.{OpsFault}
+use Rattle.req_ops.specs.declared.fault.SetFault.{SetFault}
 use Rattle.req_blob.specs.declared.fault.OpsFault.TheVariants as fault
 use Rattle.req_blob.specs.Spelling.{IsSpelling, plain_blob}
 use Rattle.req_tree.specs.Spellable.{IsEncodable}
 use Rattle.req_blob.specs.declared.limits.TheConstants.{MOST_BYTES}
-use Rattle.req_blob.proofs.Written.{can_encode}
 use Rattle.req_ops.specs.Sets.{set_magic, IsSetSpelling}
 use Rattle.req_ops.specs.SetEncoding.{part_under, parts_below, plain_set, IsPlainSet}
 use Rattle.req_ops.specs.Steps.{IsDraftTo}
 use Rattle.req_tree.specs.TreeSet.{IsEncodableSet}
+use Rattle.req_ops.proofs.LawsBelow.{CanWrite}
 use Rattle.req_ops.proofs.SetWritten.{whole_written}
 
 not_at : (k i : ℕ) → 6 ≤ k → i < 6 → (k == i) ≡ false
@@ -163,14 +164,19 @@ finished_fault s draft (Err e) is (inl h) = inl h
 finished_fault s draft (Err e) is (inr h) = inr (h.0, subst (λ (b : List ℕ). MOST_BYTES < length b) (whole_written s draft is) h.1)
 
 -- what is spelled can be written
-pub spelled_can_encode : (s : TreeSet) (bytes : List ℕ) → IsSetSpelling s bytes → IsEncodableSet s
-spelled_can_encode s bytes is = record { parts = λ kind. by_part kind (part_of kind s) refl }
+pub spelled_can_encode : CanWrite → (s : TreeSet) (bytes : List ℕ) → IsSetSpelling s bytes → IsEncodableSet s
+spelled_can_encode can s bytes is = record { parts = λ kind. by_part kind (part_of kind s) refl }
   where
     spelled : (kind : ℕ) (tree : Tree) → MatchOption (Some tree) ((part : List ℕ) → IsPartOf bytes kind part → ⊥) (λ t. (part : List ℕ) × IsPartOf bytes kind part × IsSpelling t part) → IsEncodable tree
-    spelled kind tree h = can_encode tree h.0 h.2
+    spelled kind tree h = can tree h.0 h.2
 
     by_part : (kind : ℕ) (o : Option Tree) → part_of kind s ≡ o → IfSome o IsEncodable
     by_part kind None none = tt
     by_part kind (Some tree) some =
         spelled kind tree
         (subst (λ (o : Option Tree). MatchOption o ((part : List ℕ) → IsPartOf bytes kind part → ⊥) (λ t. (part : List ℕ) × IsPartOf bytes kind part × IsSpelling t part)) some (is.parts kind (has_set_kind s kind tree some)))
+
+-- a set that is read can be written
+pub read_can_encode : CanWrite → (bytes : List ℕ) (r : Result TreeSet SetFault) → IfOk r (λ set. IsSetSpelling set bytes) → IfOk r (λ set. IsEncodableSet set)
+read_can_encode can bytes (Ok set) h = spelled_can_encode can set bytes h
+read_can_encode can bytes (Err e) h = tt

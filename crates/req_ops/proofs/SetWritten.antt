@@ -4,12 +4,11 @@ use Rattle.std.specs.Prelude.{IfSome, MatchResult}
 use Rattle.std.specs.List.{list_any}
 use Rattle.std.proofs.lemmas.Bool.{cases_lt}
 use Rattle.std.proofs.lemmas.Bool.Decides.{nat_tests}
-use Rattle.std.proofs.lemmas.List.{append-nil}
+use Rattle.std.proofs.lemmas.List.{append-nil, append_assoc}
 use Rattle.req_tree.specs.Tree.{Tree}
 use Rattle.req_tree.specs.TreeSet.{TreeSet, part_of}
 use Rattle.cs_blob.specs.Blobs.{IsSized}
 use Rattle.cs_blob.specs.Writing.{Draft, has_kind, body_bytes, total_of, add_fault, written}
-use Rattle.cs_blob.proofs.WriterLemmas.{body-append, total-more, fits_when, length-written}
 use Rattle.req_blob.specs.declared.fault.OpsFault.{OpsFault}
 use Rattle.req_blob.specs.declared.fault.OpsFault.TheVariants as fault
 use Rattle.req_blob.specs.Spelling.{IsSpelling, IsPlain, plain, plain_blob}
@@ -20,8 +19,19 @@ use Rattle.req_ops.specs.Sets.{set_magic}
 use Rattle.req_ops.specs.SetEncoding.{part_under, parts_below, plain_set}
 use Rattle.req_ops.specs.Steps.{IsDraftTo, HasLongPart}
 use Rattle.req_tree.specs.TreeSet.{IsEncodableSet}
-use Rattle.req_blob.proofs.Blobs.{requirement_blob}
-use Rattle.req_blob.proofs.Written.{fault_written}
+use Rattle.req_ops.proofs.LawsBelow.{IsBlobOf, RefusedIsLong, PartFits, HasTotal}
+
+body-append : (xs ys : List (ℕ × List ℕ)) → body_bytes (xs ++ ys) ≡ body_bytes xs ++ body_bytes ys
+body-append [] ys = refl
+body-append (x ∷ xs) ys = ap (λ (r : List ℕ). x.1 ++ r) (body-append xs ys) ∙ sym (append_assoc x.1 (body_bytes xs) (body_bytes ys))
+
+-- one part more
+pub total-more : (parts : List (ℕ × List ℕ)) (kind : ℕ) (part : List ℕ) → total_of (parts ++ (kind, part) ∷ []) ≡ total_of parts + (8 + length part)
+total-more parts kind part =
+    let body : length (body_bytes (parts ++ (kind, part) ∷ [])) ≡ length (body_bytes parts) + length part =
+    ap length (body-append parts ((kind, part) ∷ []) ∙ ap (λ (r : List ℕ). body_bytes parts ++ r) (append-nil part)) ∙ length-append (body_bytes parts) part in
+    let count : length (parts ++ (kind, part) ∷ []) ≡ length parts + 1 = length-append parts ((kind, part) ∷ []) in
+    omega (arith, body, count)
 
 any-append : {A : Type 0} (p : A → Bool) (xs ys : List A) → list_any p xs ≡ false → list_any p ys ≡ false → list_any p (xs ++ ys) ≡ false
 any-append p [] ys h g = g
@@ -97,27 +107,27 @@ draft_more s kind old new tree part is some written more = subst (IsDraftTo s (k
           spelled = types_more s kind IsSpelledPlain is.spelled (subst (λ (o : Option Tree). IfSome o IsSpelledPlain) (sym some) (subst (λ (b : List ℕ). IsSpelling tree b) written.plain_is written.spelled));
         }
 
-pub part_sized : (tree : Tree) (part : List ℕ) → IsPlain tree part → IsSized part
-part_sized tree part is =
+pub part_sized : IsBlobOf → (tree : Tree) (part : List ℕ) → IsPlain tree part → IsSized part
+part_sized blob_of tree part is =
     let short : length part ≤ MOST_BYTES = is.spelled.short in
-    let blob = requirement_blob (plain tree) (subst (λ (b : List ℕ). length b < 2 ^ 32) is.plain_is (omega (arith, short))) in
+    let blob = blob_of (plain tree) (subst (λ (b : List ℕ). length b < 2 ^ 32) is.plain_is (omega (arith, short))) in
     subst IsSized (sym is.plain_is) (record { header = blob.header; sized = blob.sized })
 
-pub part_fits : (s : TreeSet) (kind : ℕ) (draft : Draft) (tree : Tree) (part : List ℕ) → IsDraftTo s kind draft → kind < 6 → IsPlain tree part → add_fault draft.parts kind part ≡ None
-part_fits s kind draft tree part is low written =
+pub part_fits : PartFits → (s : TreeSet) (kind : ℕ) (draft : Draft) (tree : Tree) (part : List ℕ) → IsDraftTo s kind draft → kind < 6 → IsPlain tree part → add_fault draft.parts kind part ≡ None
+part_fits fits s kind draft tree part is low written =
     let small : total_of draft.parts ≤ 12 + kind * (MOST_BYTES + 8) = is.small in
     let short : length part ≤ MOST_BYTES = written.spelled.short in
     let fresh : has_kind draft.parts kind ≡ false = ap (λ (ps : List (ℕ × List ℕ)). has_kind ps kind) is.parts ∙ below_kind kind kind s (omega arith) in
     let count : length draft.parts ≤ kind = subst (λ (ps : List (ℕ × List ℕ)). length ps ≤ kind) (sym is.parts) (below_count kind s) in
-    fits_when draft.parts kind part fresh (omega (arith, count, low)) (omega (arith, small, short, low))
+    fits draft.parts kind part fresh (omega (arith, count, low)) (omega (arith, small, short, low))
 
 pub part_can : (s : TreeSet) (kind : ℕ) (tree : Tree) → IsEncodableSet s → Some tree ≡ part_of kind s → IsEncodable tree
 part_can s kind tree can some = subst (λ (o : Option Tree). IfSome o IsEncodable) (sym some) (can.parts kind)
 
-pub part_long : (s : TreeSet) (kind : ℕ) (tree : Tree) (e : OpsFault) → Some tree ≡ part_of kind s → (e ≢ fault.OutOfMemory → encoded tree ≡ Err e)
+pub part_long : RefusedIsLong → (s : TreeSet) (kind : ℕ) (tree : Tree) (e : OpsFault) → Some tree ≡ part_of kind s → (e ≢ fault.OutOfMemory → encoded tree ≡ Err e)
     → (e ≡ fault.OutOfMemory) ⊎ ((e ≡ fault.TooLong) × HasLongPart s kind)
-part_long s kind tree e some given =
-    elim (fault_written e tree given) [
+part_long refused s kind tree e some given =
+    elim (refused e tree given) [
       | inl is ↦ inl is
       | inr long ↦ inr (long.0, record { tree = tree; part = sym some; long = long.1 })
     ]
@@ -141,12 +151,12 @@ part_inside (suc k) kind s tree lt some = by_test (kind == k) refl (λ less. par
     by_test true e next = let same : kind ≡ k = grind (arith, nat_tests, e) in omega (arith, split, here same)
     by_test false e next = let less : kind < k = grind (arith, nat_tests, e, lt) in omega (arith, split, next less)
 
-pub set_long : (s : TreeSet) (kind : ℕ) → kind < 6 → HasLongPart s kind → MOST_BYTES < length (plain_set s)
+pub set_long : HasTotal → (s : TreeSet) (kind : ℕ) → kind < 6 → HasLongPart s kind → MOST_BYTES < length (plain_set s)
 unfolding plain_set
-set_long s kind low has =
+set_long has_total s kind low has =
     let inside : length (plain_blob has.tree) ≤ length (body_bytes (parts_below 6 s)) = part_inside 6 kind s has.tree low has.part in
     let long : MOST_BYTES < length (plain_blob has.tree) = has.long in
-    let size : length (written (record { magic = set_magic; parts = parts_below 6 s })) ≡ total_of (parts_below 6 s) = length-written (record { magic = set_magic; parts = parts_below 6 s }) in
+    let size : length (written (record { magic = set_magic; parts = parts_below 6 s })) ≡ total_of (parts_below 6 s) = has_total (record { magic = set_magic; parts = parts_below 6 s }) in
     omega (arith, inside, long, size)
 
 abbrev draft_of : ℕ → List (ℕ × List ℕ) → Draft
@@ -156,10 +166,10 @@ pub whole_written : (s : TreeSet) (draft : Draft) → IsDraftTo s 6 draft → wr
 unfolding plain_set
 whole_written s draft is = ap (λ (m : ℕ). written (draft_of m draft.parts)) is.magic ∙ ap (λ (ps : List (ℕ × List ℕ)). written (draft_of set_magic ps)) is.parts
 
-pub long_fault : (s : TreeSet) (e : OpsFault) → ((e ≡ fault.OutOfMemory) ⊎ ((e ≡ fault.TooLong) × ((kind : ℕ) × (kind < 6) × HasLongPart s kind)))
+pub long_fault : HasTotal → (s : TreeSet) (e : OpsFault) → ((e ≡ fault.OutOfMemory) ⊎ ((e ≡ fault.TooLong) × ((kind : ℕ) × (kind < 6) × HasLongPart s kind)))
     → (e ≡ fault.OutOfMemory) ⊎ ((e ≡ fault.TooLong) × (MOST_BYTES < length (plain_set s)))
-long_fault s e (inl is) = inl is
-long_fault s e (inr h) = inr (h.0, set_long s h.1.0 h.1.1 h.1.2)
+long_fault has_total s e (inl is) = inl is
+long_fault has_total s e (inr h) = inr (h.0, set_long has_total s h.1.0 h.1.1 h.1.2)
 
 pub added_more : (r : Result (Unit {0}) OpsFault) (s : TreeSet) (kind : ℕ) (old new : Draft) (tree : Tree) (part : List ℕ) → IsDraftTo s kind old → Some tree ≡ part_of kind s → IsPlain tree part
     → MatchResult r (λ _. new ≡ record old { parts = old.parts ++ (kind, part) ∷ [] }) (λ e. e ≡ fault.OutOfMemory)

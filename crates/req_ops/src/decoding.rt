@@ -2,7 +2,7 @@
 
 ghost use Rattle.std.specs.Prelude.{◌≡◌, ◌+◌, ◌<◌, ◌≤◌, ◌++◌, [], length, IfOk, IfErr, Ok, MatchResult};
 ghost use Rattle.req_tree.specs.Tree.{tree_of};
-ghost use Rattle.req_tree.specs.TreeSet.{TreeSet, IsSetKind, no_parts};
+ghost use Rattle.req_tree.specs.TreeSet.{TreeSet, IsEncodableSet, IsSetKind, no_parts};
 ghost use Rattle.cs_blob.specs.SuperBlobs.{IsSuperBlob, count_of};
 ghost use Rattle.cs_blob.specs.SuperBlobs as blobs;
 ghost use Rattle.req_blob.specs.declared.limits.TheConstants.{MOST_BYTES};
@@ -13,6 +13,8 @@ ghost use Rattle.req_ops.specs.Steps.{HasRead};
 
 use crate::fault::SetFault;
 use cs_blob::SuperBlob;
+use cs_blob::laws::{bytes_begin_with_one_blob, super_blobs_have_no_fault};
+use req_blob::laws::{bytes_are_read_where_they_spell, what_is_spelt_can_be_written};
 use req_blob::{MOST_BYTES, OpsFault, decode};
 use req_tree::{Req, ReqSet};
 use std::alloc::Global;
@@ -25,8 +27,14 @@ pub(crate) const SET_MAGIC: u32 = 0xfade_0c01;
 pub fn decode_set(alloc: Global, bytes: &[u8]) -> Result<ReqSet, SetFault>
     ensures found { IfOk result (λ set. IsSetSpelling set bytes.now) }
     ensures only { (set : TreeSet) → IsSetSpelling set bytes.now → MatchResult result (λ read. read ≡ set) (λ fault. fault ≡ SetFault.OutOfMemory) }
+    // What is read can be written again.
+    ensures encodable { IfOk result (λ set. IsEncodableSet set) }
     ensures exact { IfErr result (λ fault. SetFails bytes.now fault) }
 {
+    bytes_begin_with_one_blob();
+    super_blobs_have_no_fault();
+    bytes_are_read_where_they_spell();
+    what_is_spelt_can_be_written();
     match SuperBlob::read(bytes, SET_MAGIC) {
         Ok(blob) => decode_whole(alloc, &blob),
         Err(fault) => Err(SetFault::Blob(fault)),

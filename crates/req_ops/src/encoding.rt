@@ -12,6 +12,8 @@ ghost use Rattle.req_blob.specs.declared.limits.TheConstants.{MOST_BYTES};
 
 use crate::decoding::SET_MAGIC;
 use cs_blob::SuperWriter;
+use cs_blob::laws::{a_part_fits_where_there_is_room, a_super_blob_has_its_total};
+use req_blob::laws::{a_requirement_is_a_blob, what_is_refused_is_too_long};
 use req_blob::{MOST_BYTES, OpsFault, encode};
 use req_tree::{Bytes, ReqSet};
 use std::alloc::Global;
@@ -23,6 +25,7 @@ pub fn encode_set(alloc: Global, set: &ReqSet) -> Result<Bytes, OpsFault>
     ensures plain { IfOk result (λ bytes. IsPlainSet set.now bytes) }
     ensures fault { IfErr result (λ fault. (fault ≡ OpsFault.OutOfMemory) ⊎ ((fault ≡ OpsFault.TooLong) × (MOST_BYTES < length (plain_set set.now)))) }
 {
+    a_super_blob_has_its_total();
     let mut writer = SuperWriter::new(alloc, SET_MAGIC);
     match add_kinds(alloc, &mut writer, set) {
         Ok(()) => finish(writer),
@@ -74,6 +77,9 @@ fn add_kind(
     requires before { IsDraftTo set.now kind writer.old }
     ensures { MatchResult result (λ _. IsDraftTo set.now (kind + 1) writer.new) (λ fault. (fault ≡ OpsFault.OutOfMemory) ⊎ ((fault ≡ OpsFault.TooLong) × HasLongPart set.now kind)) }
 {
+    a_requirement_is_a_blob();
+    a_part_fits_where_there_is_room();
+    what_is_refused_is_too_long();
     match set.part(kind) {
         None => Ok(()),
         Some(req) => match encode(alloc, req) {

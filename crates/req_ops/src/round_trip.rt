@@ -9,7 +9,10 @@ ghost use Rattle.req_ops.specs.SetEncoding.{IsPlainSet, plain_set};
 use crate::decoding::decode_set;
 use crate::encoding::encode_set;
 use crate::fault::SetFault;
+use crate::laws::bytes_spell_one_set;
+use cs_blob::laws::a_super_blob_has_its_total;
 use req_blob::OpsFault;
+use req_blob::laws::spellings_are_as_long_as_the_plain_one;
 use req_tree::{Bytes, ReqSet};
 use std::alloc::Global;
 
@@ -32,6 +35,9 @@ pub fn respell_set(alloc: Global, bytes: &[u8]) -> Result<Bytes, SetFault>
     // What is read isn't too long to be written.
     ensures fault { IfErr result (λ fault. SetFails bytes.now fault) }
 {
+    bytes_spell_one_set();
+    spellings_are_as_long_as_the_plain_one();
+    a_super_blob_has_its_total();
     match decode_set(alloc, bytes) {
         Ok(set) => write_again(alloc, set),
         Err(fault) => Err(fault),

@@ -9,4 +9,4 @@ pub returns-in-Ok-clause-fault : goal.returns-in-Ok-clause-fault
 returns-in-Ok-clause-fault c = finished_fault _ _ _ c.in-Ok.ensures c.finish.ensures
 
 pub returns-in-Err-clause-fault : goal.returns-in-Err-clause-fault
-returns-in-Err-clause-fault c = long_fault _ _ c.in-Err.ensures
+returns-in-Err-clause-fault c = long_fault c.a_super_blob_has_its_total.ensures _ _ c.in-Err.ensures
