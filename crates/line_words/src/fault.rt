@@ -9,7 +9,7 @@ ghost use Rattle.line_words.specs.Faults.{fault_of};
 use line_text::LineText;
 
 /// The first thing in a line, from the left, that doesn't fit.
-#[derive(Clone, Copy, Debug, Drop, PartialEq, Eq)]
+#[derive(Clone, Copy, Drop)]
 pub enum LineFault {
     /// A word doesn't fit its place, is missing or is one too many.
     BadLine {

@@ -10,7 +10,7 @@ use std::test::Fail;
 const CUT: &[u8] = b"tick 1\ntick 2\ntick";
 
 #[rattlefmt::skip]
-const FAILURES: [(&[u64], &[u64], Status, &[u8]); 12] = [
+const FAILURES: [(&[u64], &[u64], Status, &[u8]); 14] = [
     (&[1], &[],  Status::ReadFault,  b"fault ReadFault\n"),
     (&[2], &[],  Status::ReadFault,  b"now=1\nnow=2\nfault ReadFault\n"),
     (&[3], &[],  Status::Fine,       b"now=1\nnow=2\nrefused line 8 NotBuilt\n"),
@@ -21,6 +21,8 @@ const FAILURES: [(&[u64], &[u64], Status, &[u8]); 12] = [
     (&[],  &[5], Status::WriteFault, b"now=1\nnow=2\n"),
     (&[],  &[6], Status::WriteFault, b"now=1\nnow=2\nrefused line 8 NotBuilt\n"),
     (&[],  &[7], Status::Fine,       b"now=1\nnow=2\nrefused line 8 NotBuilt\n"),
+    (&[],  &[1, 2], Status::WriteFault, b""),
+    (&[],  &[2, 3], Status::WriteFault, b"now=1\n"),
     (&[2], &[5], Status::WriteFault, b"now=1\nnow=2\n"),
     (&[2], &[6], Status::WriteFault, b"now=1\nnow=2\nfault ReadFault\n"),
 ];

@@ -30,7 +30,7 @@ some_past (Some xs) (Some ys) bytes told taken past = (bytes, taken, past)
 -- a session that isn't cut short is too long exactly where a byte past the limits was given
 pub session_past : (o : Opening) (s : State) (left now written sent : Option (List ℕ)) (status : Status) → SessionEnds o s left now written sent status
     → IsSome left → status ≢ WriteFault → status ≢ OutOfMemory → ((status ≡ SessionTooLong) ↔ GavePast left now)
-session_past o s left now written sent Fine e told a b = (λ is. (cc), λ past. absurd (none_past left now e.bytes e.taken e.within past))
+session_past o s left now written sent Fine e told a b = (λ is. (cc), λ past. absurd (none_past left now e.1.bytes e.1.taken e.1.within past))
 session_past o s left now written sent Usage e told a b = absurd e
 session_past o s left now written sent ReadFault e told a b = (λ is. (cc), λ past. absurd (none_past left now (text_of e.stops.lines ++ e.stops.rest) e.stops.taken e.stops.why.1 past))
 session_past o s left now written sent WriteFault e told a b = absurd (a refl)

@@ -27,7 +27,7 @@ pub record BreaksAtFault (Why : List (List ℕ) → List ℕ → Type 0) (text :
 
 -- how a session ends from the opening o and the state s on, by the status of its run
 abbrev pub SessionEnds : Opening → State → Option (List ℕ) → Option (List ℕ) → Option (List ℕ) → Option (List ℕ) → Status → Type 0
-SessionEnds o s left now written sent Fine = IsSession o s left now written sent
+SessionEnds o s left now written sent Fine = (after : State) × IsSession o s after left now written sent
 SessionEnds o s left now written sent ReadFault = TellsFault AtReadFault read_fault_text o s left now written sent
 SessionEnds o s left now written sent WriteFault =
     BreaksOff (Answers o s) left now written sent

@@ -7,11 +7,10 @@ use Rattle.line_reader.specs.Lines.{lines_of, text_of}
 use Rattle.line_reader.specs.Limits.{IsWithin}
 
 -- the source lost all its bytes and is at its end, and the sink gained just the replies, each with its LF, that a session from
--- the opening o and the state s on gives to the lines of those bytes
-pub record IsSession (o : Opening) (s : State) (left now written sent : Option (List ℕ)) : Type 0 where
+-- the opening o and the state s on gives to the lines of those bytes; it leads to the state after
+pub record IsSession (o : Opening) (s after : State) (left now written sent : Option (List ℕ)) : Type 0 where
   pub bytes : List ℕ
   pub replies : List (List ℕ)
-  pub after : State
   pub taken : Consumes left now bytes
   pub at_end : IsAtEnd now
   pub within : IsWithin bytes

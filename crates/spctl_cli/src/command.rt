@@ -6,7 +6,7 @@ ghost use Rattle.session_model.specs.Commands as model;
 ghost use Rattle.spctl_cli.specs.CommandLine.{texts, command_view};
 
 /// What the program is asked to do.
-#[derive(Clone, Copy, Drop)]
+#[derive(Drop)]
 pub enum Command {
     /// Answer the lines of the input.
     Session,

@@ -6,7 +6,7 @@ ghost use Rattle.gk_io.specs.Told.{IsFlushed};
 ghost use Rattle.line_reader.specs.Limits.{IsWithin};
 ghost use Rattle.req_tree.specs.Facts.{no_facts};
 ghost use Rattle.policy_model.specs.History.{fresh};
-ghost use Rattle.session_model.specs.Session.{begun};
+ghost use Rattle.session_model.specs.Session.{State, begun};
 ghost use Rattle.session_model.specs.Commands as model;
 ghost use Rattle.spctl_cli.specs.CommandLine.{texts};
 ghost use Rattle.spctl_cli.specs.Headline.{IsSession};
@@ -30,7 +30,7 @@ pub fn run<S: Source, W: Sink>(
 ) -> Status
     // The headline: a session that ends well wrote just the replies to the lines it read.
     ensures fine { model.command_of (texts words.now) ≡ Some model.session → result ≡ Status.Fine
-        → IsSession (fresh no_facts) begun (S.left input.old) (S.left input.new)
+        → (after : State) × IsSession (fresh no_facts) begun after (S.left input.old) (S.left input.new)
         (W.written output.old) (W.written output.new) }
 
     // What was read, answered and written, by the command and the end.

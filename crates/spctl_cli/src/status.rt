@@ -1,7 +1,7 @@
 //! How a run ends.
 
 /// The end of a run. Each but `Fine`, `WriteFault` and `OutOfMemory` ends the output with a line of its own.
-#[derive(Clone, Copy, Debug, Drop, PartialEq, Eq)]
+#[derive(Clone, Copy, Drop, PartialEq, Eq)]
 pub enum Status {
     /// The input was read to its end, and every line was answered.
     Fine,
