@@ -1,3 +1,4 @@
 pub mod BytesMove
 pub mod SentPieceByPiece
 pub mod WholeFile
+pub mod FilesByName

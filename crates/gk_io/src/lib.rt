@@ -6,6 +6,7 @@ mod call_numbers;
 mod clock;
 mod fault;
 mod file_shelf;
+pub mod laws;
 mod memory_clock;
 mod memory_shelf;
 mod memory_sink;

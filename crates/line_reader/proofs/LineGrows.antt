@@ -1,7 +1,7 @@
 -- A line grows run by run.
-use Rattle.std.proofs.Common.{◌≡◌, ◌≢◌, ℕ, ◌<◌, Bool, true, false, List, [], ◌∷◌, ◌++◌, Option, None, Some, Result, Ok, Err, refl, sym, ap, ◌∙◌, append_assoc, append-nil, length-append, subst, arith}
+use Rattle.std.proofs.Common.{◌≡◌, ◌≢◌, ℕ, ◌<◌, Bool, true, false, List, [], ◌∷◌, ◌++◌, Option, None, Some, Result, Ok, Err, sym, ap, ◌∙◌, append_assoc, append-nil, length-append, subst, arith}
 use Rattle.std.proofs.lemmas.List.Elements.{All-append}
-use Rattle.std.proofs.KnownBytes.{Consumes-nil, Consumes-kept}
+use Rattle.std.proofs.KnownBytes.{Consumes-kept}
 use Rattle.std.specs.Io.KnownBytes.{Keeps, Consumes, prepend_known}
 use Rattle.line_reader.specs.Lines.{HasNoLf}
 use Rattle.line_reader.specs.Reading.{pending, held, Stream, stream, IsPart, IsLine}
@@ -10,18 +10,6 @@ use Rattle.line_reader.specs.declared.reader.LineReader.{LineReader}
 use Rattle.line_reader.proofs.FrontsGrow.{front_grows}
 use Rattle.line_reader.specs.declared.limits.TheConstants.{SESSION_LINES}
 use Rattle.line_text.specs.declared.limits.TheConstants.{LINE_HELD}
-
--- nothing yet
-pub part_start : (a : Stream) (line : List ℕ) → line ≡ [] → IsPart a a line
-part_start a line e = record {
-  bytes = [];
-  taken = Consumes-nil a.unread;
-  no_lf = λ k d h. absurd (omega arith);
-  front = e;
-  size = omega arith;
-  lines = refl;
-  begun = λ h. absurd (omega arith);
-}
 
 -- a piece was asked for
 pub part_ready : (a : Stream) (p q : LineReader) (l m : Option (List ℕ)) → IsPart a (stream p l) (held p) → HandsOnNothing p q → Keeps (prepend_known (pending p) l) (prepend_known (pending q) m) → IsPart a (stream q m) (held q)
