@@ -19,9 +19,9 @@ fn source_of(alloc: Global, bytes: &[u8], failing: &[u64]) -> Result<MemorySourc
     Ok(MemorySource::new(Vec::from_slice(alloc, bytes)?, numbers(alloc, failing)?))
 }
 
-// How many bytes a read gives, and what then stands in the buffer of three.
+// How many bytes a read returns, and what then stands in a buffer that held `xyz`.
 fn reads(source: &mut MemorySource, count: Result<usize, Failed>, behind: &[u8]) -> bool {
-    let mut buf = [0; 3];
+    let mut buf = *b"xyz";
     source.read(&mut buf) == count && buf.as_slice() == behind
 }
 
@@ -29,10 +29,10 @@ fn source_gives_its_bytes(alloc: Global) -> Result<bool, AllocError> {
     let mut source = source_of(alloc, b"abcde", &[2])?;
     Ok(
         reads(&mut source, Ok(3), b"abc")
-            && reads(&mut source, Err(Failed), b"\0\0\0")
+            && reads(&mut source, Err(Failed), b"xyz")
             && source.faults() == 1
-            && reads(&mut source, Ok(2), b"de\0")
-            && reads(&mut source, Ok(0), b"\0\0\0"),
+            && reads(&mut source, Ok(2), b"dez")
+            && reads(&mut source, Ok(0), b"xyz"),
     )
 }
 
