@@ -9,7 +9,7 @@ use std::alloc::Global;
 #[derive(Drop)]
 pub enum Closed<T> {
     Whole(T),
-    /// A turn was begun and never ended.
+    /// A turn was begun and never ended: the two words, which differ.
     Stuck { next: u64, serving: u64 },
 }
 

@@ -25,7 +25,7 @@ ghost use Rattle.std.specs.Prelude.{◌≡◌};
 use crate::logged::Logged;
 use crate::rule::Board;
 
-/// How many tickets there are.
+/// How many tickets there are: 2^63.
 pub const TICKETS: u64 = 9_223_372_036_854_775_808;
 
 /// A lock over a value, which many seats take turns at.
