@@ -22,15 +22,18 @@ answers o s start desk lines replies stands answered = ((answered o s stands).0,
 -- a session that is read to its end
 pub session_fine : (o : Opening) (s : State) (start desk : Desk) (stands : Stands start o s.history) (left now written sent : Option (List ℕ))
     → EndsFine (HasAnswered start desk) left now written sent → (after : State) × IsSession o s after left now written sent
-session_fine o s start desk stands left now written sent e = ((e.answered o s stands).0, record {
-  bytes = e.bytes;
-  replies = e.replies;
-  taken = e.taken;
-  at_end = e.at_end;
-  within = e.within;
-  put = e.put;
-  session = (e.answered o s stands).1;
-})
+session_fine o s start desk stands left now written sent e = (
+  (e.answered o s stands).0,
+  record {
+    bytes = e.bytes;
+    replies = e.replies;
+    taken = e.taken;
+    at_end = e.at_end;
+    within = e.within;
+    put = e.put;
+    session = (e.answered o s stands).1;
+  },
+)
 
 -- a session that stops before its end
 pub session_stops : (Why : List (List ℕ) → List ℕ → Type 0) (o : Opening) (s : State) (start desk : Desk) (stands : Stands start o s.history) (left now written sent : Option (List ℕ))
