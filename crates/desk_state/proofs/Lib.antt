@@ -1,2 +1,2 @@
-mod TextLemmas
-mod StandsLemmas
+mod JoinedTexts
+mod GoesOn

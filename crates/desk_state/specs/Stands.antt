@@ -1,5 +1,5 @@
 -- What a desk stands for: an opening, and what has happened since.
-use Rattle.std.specs.Prelude.{◌≡◌, ℕ, List, [], ◌∷◌, ◌++◌}
+use Rattle.std.specs.Prelude.{◌≡◌, ℕ, List, [], ◌∷◌, ◌++◌, Result, Ok, Err}
 use Rattle.req_tree.specs.Facts.{Facts, no_facts}
 use Rattle.authority_table.specs.Rule.{row_of, rows_of}
 use Rattle.policy_model.specs.Tables.{Tables}
@@ -20,6 +20,11 @@ moment_of d = d.moment
 -- the tables with one more rule and one more receipt
 abbrev pub with_both : Rule → Receipt → Tables → Tables
 with_both rule receipt t = record { rows = t.rows ++ row_of rule ∷ []; receipts = t.receipts ++ receipt_of receipt ∷ []; enabled = t.enabled }
+
+-- the tables after a rule and its receipt were to be kept: with both, or as before
+abbrev pub kept_both : {A E : Type 0} → Result A E → Rule → Receipt → Tables → Tables
+kept_both (Ok done) rule receipt t = with_both rule receipt t
+kept_both (Err fault) rule receipt t = t
 
 -- the facts that a desk knows of code: none are read yet
 abbrev pub facts_of : Desk → Facts

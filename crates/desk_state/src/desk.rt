@@ -46,7 +46,7 @@ impl Desk {
     ghost use Rattle.desk_state.specs.Edit.{edit_of, content_of, new_row};
     ghost use Rattle.desk_state.specs.Answer.{given, refusal_in, IsDone};
     ghost use Rattle.desk_state.specs.Verdict.{verdict_of, origin_of};
-    ghost use Rattle.desk_state.specs.Stands.{tables, moment_of, facts_of, with_both, Stands};
+    ghost use Rattle.desk_state.specs.Stands.{tables, moment_of, facts_of, kept_both, Stands};
 
     /// A desk without rules, at moment 0, with assessments switched on.
     pub fn fresh(alloc: Global) -> Desk
@@ -225,8 +225,7 @@ impl Desk {
         requires room { length (tables self.old).rows < MOST_RULES }
         requires few { length (tables self.old).receipts < MOST_RECEIPTS }
         requires id { rule.id ≡ length (tables self.old).receipts + 1 }
-        ensures ok { OnOk result (tables self.new ≡ with_both rule receipt (tables self.old)) }
-        ensures err { OnErr result (tables self.new ≡ tables self.old) }
+        ensures tables { tables self.new ≡ kept_both result rule receipt (tables self.old) }
         ensures moment { moment_of self.new ≡ moment_of self.old }
     {
         self.receipts.push(receipt)?;

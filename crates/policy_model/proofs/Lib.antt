@@ -1,7 +1,8 @@
-pub mod RuleLaws
-pub mod IdLaws
-pub mod OutcomeLaws
-pub mod HistoryLaws
-pub mod FractionLemmas
-pub mod KeyLaws
+mod FirstRows
+mod OwnIds
+mod OneOutcome
+mod OneMoreEvent
+mod DecimalPlaces
+mod OwnKeys
 mod WorkedRows
+mod PriorityTexts

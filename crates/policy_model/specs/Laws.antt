@@ -1,13 +1,13 @@
 -- What follows from the definitions alone; each is proved on a function of src/laws.rt.
-use Rattle.std.specs.Prelude.{◌≡◌, ◌≢◌, ℕ, ◌*◌, ◌-◌, ◌^◌, ◌<◌, ◌≤◌, List, [], ◌∷◌, ◌++◌, All, length, Bool, Option, Some, IfSome}
+use Rattle.std.specs.Prelude.{◌≡◌, ◌≢◌, ℕ, ℤ, unsigned_abs, ◌*◌, ◌-◌, ◌^◌, ◌<◌, ◌≤◌, List, [], ◌∷◌, ◌++◌, All, length, Bool, Option, Some, IfSome}
 use Rattle.req_tree.specs.Subject.{Subject}
 use Rattle.req_tree.specs.Facts.{Facts}
 use Rattle.req_tree.specs.NumericOrder.{number_of}
 use Rattle.policy_model.specs.Rules.{Row, Kind, rank_of, Before, Meets, IsFirstOf, Governs, IsLatent}
 use Rattle.policy_model.specs.Outcomes.{Outcome, outcome, outcome_by}
-use Rattle.policy_model.specs.declared.limits.TheConstants.{UNIT}
+use Rattle.policy_model.specs.declared.limits.TheConstants.{UNIT, GREATEST_PRIORITY}
 use Rattle.policy_model.specs.Contents.{Edit}
-use Rattle.policy_model.specs.Texts.{places}
+use Rattle.policy_model.specs.Texts.{places, priority_text}
 use Rattle.policy_model.specs.Tables.{Tables, Receipt}
 use Rattle.policy_model.specs.Edits.{kept, does}
 use Rattle.policy_model.specs.History.{Event, Opening, tables_step, tables_of, now_step, now_of, HasOwnIds, HasOwnKeys}
@@ -93,3 +93,8 @@ PlacesStand = (part : ℕ) → part < UNIT → IsFraction part (places 6 part)
 -- and no others do
 abbrev pub NoOthersStand : Type 0
 NoOthersStand = (part : ℕ) (digits : List ℕ) → IsFraction part digits → digits ≡ places 6 part
+
+-- the text of a priority within its limits is that of no other
+abbrev pub PriorityTextIsItsOwn : Type 0
+PriorityTextIsItsOwn = (a b : ℤ) → unsigned_abs a ≤ unsigned_abs GREATEST_PRIORITY → unsigned_abs b ≤ unsigned_abs GREATEST_PRIORITY →
+    priority_text a ≡ priority_text b → a ≡ b

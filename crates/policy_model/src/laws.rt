@@ -1,7 +1,7 @@
 //! Laws over the definitions: functions that do nothing and whose contracts are the laws.
 
 ghost use Rattle.policy_model.specs.History.{HasOwnIds, HasOwnKeys, empty_tables};
-ghost use Rattle.policy_model.specs.Laws.{IdsStayOwn, KeysStayOwn, KeptKeyChangesNothing, MomentNeverStepsBack, GovernsOnce, LatentOnce, OutcomeIsRight, OutcomeIsOne, FindsNext, PassesOver, PassesOverLater, TablesGoOn, MomentGoesOn, PlacesStand, NoOthersStand};
+ghost use Rattle.policy_model.specs.Laws.{IdsStayOwn, KeysStayOwn, KeptKeyChangesNothing, MomentNeverStepsBack, GovernsOnce, LatentOnce, OutcomeIsRight, OutcomeIsOne, FindsNext, PassesOver, PassesOverLater, TablesGoOn, MomentGoesOn, PlacesStand, NoOthersStand, PriorityTextIsItsOwn};
 
 /// The outcome that the definitions compute is that of the rule that governs.
 pub fn outcome_is_right()
@@ -51,4 +51,9 @@ pub fn history_goes_on()
 pub fn places_are_the_fraction()
     ensures stand { PlacesStand }
     ensures only { NoOthersStand }
+{}
+
+/// A priority within its limits prints as no other does.
+pub fn priority_texts_are_their_own()
+    ensures { PriorityTextIsItsOwn }
 {}

@@ -1,5 +1,5 @@
 use Rattle.std.proofs.Common.{rules}
-use Rattle.desk_state.proofs.TextLemmas.{joined_when, joined_front, joined_rest}
+use Rattle.desk_state.proofs.JoinedTexts.{joined_when, joined_front, joined_rest}
 use Rattle.desk_state.proofs.edit.is_joined.Goals as goal
 
 pub returns-then-begins : goal.returns-then-begins

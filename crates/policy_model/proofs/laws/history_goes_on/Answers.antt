@@ -1,4 +1,4 @@
-use Rattle.policy_model.proofs.HistoryLaws.{tables_of-more, now_of-more}
+use Rattle.policy_model.proofs.OneMoreEvent.{tables_of-more, now_of-more}
 use Rattle.policy_model.proofs.laws.history_goes_on.Goals as goal
 
 pub returns-clause-tables : goal.returns-clause-tables

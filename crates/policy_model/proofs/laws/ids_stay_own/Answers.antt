@@ -1,4 +1,4 @@
-use Rattle.policy_model.proofs.IdLaws.{ids_after}
+use Rattle.policy_model.proofs.OwnIds.{ids_after}
 use Rattle.policy_model.proofs.laws.ids_stay_own.Goals as goal
 
 pub returns-clause-kept : goal.returns-clause-kept

@@ -1,4 +1,4 @@
-use Rattle.policy_model.proofs.KeyLaws.{empty_keys, keys_after, kept_changes_nothing}
+use Rattle.policy_model.proofs.OwnKeys.{empty_keys, keys_after, kept_changes_nothing}
 use Rattle.policy_model.proofs.laws.keys_stay_own.Goals as goal
 
 pub returns-clause-empty : goal.returns-clause-empty

@@ -1,4 +1,4 @@
-use Rattle.policy_model.proofs.OutcomeLaws.{governs_once, latent_once, outcome_is_one}
+use Rattle.policy_model.proofs.OneOutcome.{governs_once, latent_once, outcome_is_one}
 use Rattle.policy_model.proofs.laws.one_outcome.Goals as goal
 
 pub returns-clause-governs : goal.returns-clause-governs

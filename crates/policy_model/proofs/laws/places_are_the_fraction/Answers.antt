@@ -1,4 +1,4 @@
-use Rattle.policy_model.proofs.FractionLemmas.{fraction_stands, fraction_only}
+use Rattle.policy_model.proofs.DecimalPlaces.{fraction_stands, fraction_only}
 use Rattle.policy_model.proofs.laws.places_are_the_fraction.Goals as goal
 
 pub returns-clause-stand : goal.returns-clause-stand

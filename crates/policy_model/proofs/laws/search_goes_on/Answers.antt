@@ -1,5 +1,5 @@
 use Rattle.policy_model.specs.Rules.{Meets}
-use Rattle.policy_model.proofs.RuleLaws.{finds_last, fails_last, later_last}
+use Rattle.policy_model.proofs.FirstRows.{finds_last, fails_last, later_last}
 use Rattle.policy_model.proofs.laws.search_goes_on.Goals as goal
 
 pub returns-clause-finds : goal.returns-clause-finds

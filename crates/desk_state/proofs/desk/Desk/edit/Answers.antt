@@ -2,7 +2,7 @@ use Rattle.std.proofs.Common.{refl}
 use Rattle.policy_model.specs.History.{edit}
 use Rattle.desk_state.specs.Edit.{edit_of}
 use Rattle.desk_state.specs.Stands.{tables}
-use Rattle.desk_state.proofs.StandsLemmas.{stands_more, kept_same, done_tables}
+use Rattle.desk_state.proofs.GoesOn.{stands_more, kept_same, done_tables}
 use Rattle.desk_state.proofs.desk.Desk.edit.Goals as goal
 
 pub returns-in-Some-clause-stands : goal.returns-in-Some-clause-stands

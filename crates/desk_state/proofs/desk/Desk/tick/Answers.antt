@@ -1,6 +1,6 @@
 use Rattle.std.proofs.Common.{refl, sym, ap, ◌∙◌}
 use Rattle.policy_model.specs.History.{tick, now_step}
-use Rattle.desk_state.proofs.StandsLemmas.{stands_more}
+use Rattle.desk_state.proofs.GoesOn.{stands_more}
 use Rattle.desk_state.proofs.desk.Desk.tick.Goals as goal
 
 pub returns-clause-stands : goal.returns-clause-stands

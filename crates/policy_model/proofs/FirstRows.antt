@@ -32,9 +32,6 @@ same_kind-from a b e = ap (same_kind a) (sym e) ∙ same_kind-refl a
 pub before_irrefl : (x : Rank) → Before x x → ⊥
 before_irrefl x h = grind (arith, ints, h)
 
-pub before_trans : (x y z : Rank) → Before x y → Before y z → Before x z
-before_trans x y z h k = grind (arith, ints, h, k)
-
 pub before_asym : (x y : Rank) → Before x y → Before y x → ⊥
 before_asym x y h k = grind (arith, ints, h, k)
 

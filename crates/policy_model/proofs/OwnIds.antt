@@ -6,14 +6,14 @@ use Rattle.std.proofs.lemmas.Bool.{cases_order}
 use Rattle.std.proofs.lemmas.List.{length-append, length-map, get_or-map, get_or_default}
 use Rattle.std.proofs.lemmas.List.Quantifiers.{all_pairs_push}
 use Rattle.std.proofs.lemmas.List.Kept.{AllPairs-filter}
-use Rattle.std.proofs.lemmas.List.Elements.{All-filter, All-push, All-map, All-contains, All-nil}
+use Rattle.std.proofs.lemmas.List.Elements.{All-filter, All-push, All-map, All-contains}
 use Rattle.policy_model.specs.Rules.{Row, Rank, rank_of, Before, IsFirst, HasNone, IsFirstOf}
 use Rattle.policy_model.specs.Contents.{Content, add, remove, enable, disable, expire, switch, Edit}
 use Rattle.policy_model.specs.Tables.{Tables, Receipt, Answer}
 use Rattle.policy_model.specs.Changes.{selects, change, with_count, with_expiry, added_row, rows_after}
 use Rattle.policy_model.specs.Refusals.{refusal}
 use Rattle.policy_model.specs.Edits.{does, does_at, at_new, kept}
-use Rattle.policy_model.specs.History.{Event, tick, ask, offer, edit, edit_failed, edit_starved, look, tables_step, tables_after, HasOwnIds, empty_tables}
+use Rattle.policy_model.specs.History.{Event, tick, ask, offer, edit, edit_failed, edit_starved, look, tables_step, tables_after, HasOwnIds}
 
 abbrev Rising : List Row → Type 0
 Rising rows = AllPairs (λ (a b : Row). a.id < b.id) rows
@@ -84,9 +84,6 @@ step_ids look t h = h
 pub ids_after : (es : List Event) (t : Tables) → HasOwnIds t → HasOwnIds (tables_after es t)
 ids_after [] t h = h
 ids_after (e ∷ es) t h = ids_after es (tables_step e t) (step_ids e t h)
-
-pub empty_ids : HasOwnIds empty_tables
-empty_ids = record { apart = λ i j d lt in'. absurd (omega (arith, in')); numbered = All-nil (λ (r : Row). r.id ≤ 0) }
 
 -- of two rows with different ids one is before the other
 one_ahead : (a b : Rank) → a.id < b.id → (Before a b → ⊥) → (Before b a → ⊥) → ⊥

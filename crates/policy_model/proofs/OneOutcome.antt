@@ -8,8 +8,8 @@ use Rattle.policy_model.specs.Outcomes.{outcome, outcome_by}
 use Rattle.policy_model.specs.Tables.{Tables}
 use Rattle.policy_model.specs.History.{HasOwnIds}
 use Rattle.policy_model.specs.Laws.{OutcomeIsRight, GovernsOnce, LatentOnce, OutcomeIsOne}
-use Rattle.policy_model.proofs.RuleLaws.{first_meets}
-use Rattle.policy_model.proofs.IdLaws.{one_answer}
+use Rattle.policy_model.proofs.FirstRows.{first_meets}
+use Rattle.policy_model.proofs.OwnIds.{one_answer}
 
 pub outcome_is_right : OutcomeIsRight
 outcome_is_right rows kind subject facts m =
