@@ -1,6 +1,6 @@
-pub mod NumberLemmas
-pub mod BlobLemmas
-pub mod SuperLemmas
-pub mod WriterLemmas
+pub mod NumbersPlaced
+pub mod BlobsAtFronts
+pub mod NoSuperFault
+pub mod PartsWritten
 pub mod ReadBack
 pub mod OneFault

@@ -6,8 +6,8 @@ use Rattle.cs_blob.specs.Numbers.{number_at, word}
 use Rattle.cs_blob.specs.Blobs.{IsSized}
 use Rattle.cs_blob.specs.SuperBlobs.{IsFine, IsSuperBlob, count_of, kind_at, offset_at, length_at, part_at}
 use Rattle.cs_blob.specs.Writing.{Draft, has_kind, body_bytes, total_of, index_bytes, written, AreParts, IsDraft, Holds}
-use Rattle.cs_blob.proofs.NumberLemmas.{number_at-front, number_at-behind}
-use Rattle.cs_blob.proofs.WriterLemmas.{Part, body-append, length-index, index-append, head_of, length-head, written_is, length-written, written_magic, written_total, written_count, number_placed, length-word}
+use Rattle.cs_blob.proofs.NumbersPlaced.{number_at-front, number_at-behind}
+use Rattle.cs_blob.proofs.PartsWritten.{Part, body-append, length-index, index-append, head_of, length-head, written_is, length-written, written_magic, written_total, written_count, number_placed, length-word}
 
 -- a list at a place
 record Split (parts : List Part) (place : ℕ) : Type 0 where

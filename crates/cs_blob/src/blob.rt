@@ -8,7 +8,7 @@ use crate::number::number;
 use std::marker::Model;
 
 /// A blob, and the bytes that follow it.
-#[derive(Debug, Drop)]
+#[derive(Drop)]
 pub struct Blob<'a> {
     whole: &'a [u8],
     rest: &'a [u8],

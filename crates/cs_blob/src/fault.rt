@@ -9,7 +9,7 @@ use std::alloc::{AllocError, AllocFailed};
 
 /// The first of these that holds, in the order in which `read` looks. An `index` counts the entries of
 /// the index from 0.
-#[derive(Clone, Copy, Debug, Drop, PartialEq, Eq, Hash)]
+#[derive(Clone, Copy, Drop, PartialEq, Eq)]
 pub enum BlobFault {
     /// The bytes end before a header does; or the super-blob has no room for the count of its parts, or
     /// for as many entries.
@@ -61,7 +61,7 @@ fn push_field(out: &mut LineText, name: &[u8], number: u32)
 }
 
 /// Why a part can't be added: the first of these that holds, in this order.
-#[derive(Clone, Copy, Debug, Drop, PartialEq, Eq, Hash)]
+#[derive(Clone, Copy, Drop, PartialEq, Eq)]
 pub enum WriterFault {
     /// The type is taken.
     PartTwice,

@@ -14,7 +14,7 @@ use crate::number::number;
 use std::marker::Model;
 
 /// A super-blob, and the bytes that follow it.
-#[derive(Debug, Drop)]
+#[derive(Drop)]
 pub struct SuperBlob<'a> {
     whole: &'a [u8],
     rest: &'a [u8],

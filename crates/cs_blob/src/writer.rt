@@ -15,7 +15,7 @@ use req_tree::Bytes;
 use std::alloc::{AllocError, Global};
 use std::marker::Model;
 /// Parts under their types, in the order in which they were added.
-#[derive(Debug, Drop)]
+#[derive(Drop)]
 pub struct SuperWriter {
     magic: u32,
     parts: Vec<(u32, Bytes)>,

@@ -15,8 +15,8 @@ use Rattle.cs_blob.specs.Numbers.{word, number_at}
 use Rattle.cs_blob.specs.Blobs.{IsBlob, blob_fault}
 use Rattle.cs_blob.specs.declared.fault.BlobFault.{BlobFault}
 use Rattle.cs_blob.specs.declared.fault.BlobFault.TheVariants.{Short, BadMagic, BadLength}
-use Rattle.cs_blob.proofs.NumberLemmas.{number_at-behind, number_at-written}
-use Rattle.cs_blob.proofs.BlobLemmas.{blob_read, no_fault, whole_is, rest_is}
+use Rattle.cs_blob.proofs.NumbersPlaced.{number_at-behind, number_at-written}
+use Rattle.cs_blob.proofs.BlobsAtFronts.{blob_read, no_fault, whole_is, rest_is}
 use Rattle.req_blob.specs.declared.fault.OpsFault.{OpsFault}
 use Rattle.req_blob.specs.declared.fault.OpsFault.TheVariants as fault
 use Rattle.req_blob.specs.Spelling.{Spells, IsSpelling, requirement, requirement_magic}

@@ -9,7 +9,7 @@ use Rattle.req_blob.specs.declared.fault.OpsFault.{OpsFault}
 use Rattle.req_blob.specs.declared.opcode.Leaf.{Leaf}
 use Rattle.req_blob.specs.declared.opcode.Leaf.TheVariants as l
 use Rattle.req_blob.specs.Words.{signed_word, datum, match_text}
-use Rattle.req_blob.specs.Opcodes.{leaf_number}
+use Rattle.req_blob.proofs.Table.{leaf_number}
 use Rattle.req_blob.specs.Spelling.{Spells, Marked, IsText, IsSlot, IsHash, IsFieldKey, IsOidDatum, IsTest}
 use Rattle.req_blob.specs.Reading.{◌>>=◌, datum_at, signed_at, hash_at, key_at, oid_at, match_at, leaf_at}
 use Rattle.req_blob.specs.Reading.{ident_at, anchor_hash_at, legacy_info_at, cd_hash_at, info_field_at, cert_field_at, trusted_cert_at, cert_oid_at, entitlement_field_at, cert_policy_at, named_anchor_at, named_code_at, platform_at}

@@ -10,11 +10,11 @@ use Rattle.req_blob.specs.declared.opcode.Opcode.{Opcode}
 use Rattle.req_blob.specs.declared.opcode.Opcode.TheVariants as o
 use Rattle.cs_blob.specs.Numbers.{word}
 use Rattle.req_blob.specs.Words.{unpadded}
-use Rattle.req_blob.specs.Opcodes.{leaf_number, opcode_of}
+use Rattle.req_blob.specs.Opcodes.{opcode_of}
 use Rattle.req_blob.specs.Spelling.{Spells, Marked}
 use Rattle.req_blob.specs.Reading.{◌>>=◌, Reader, place, word_at, unpadded_at, skip_false_at, both_at, either_at, negate_at, skip_next_at, operands_at, req_at}
 use Rattle.req_blob.proofs.Fields.{bind_ok, ok_is, Takes, Takes-then, word_takes, word_again, unpadded_takes, unpadded_again}
-use Rattle.req_blob.proofs.Table.{IsRight, opcode_right, opcode_of-leaf, opcode_of-both, opcode_of-either, opcode_of-negate, skip_false_of, skip_next_of}
+use Rattle.req_blob.proofs.Table.{leaf_number, IsRight, opcode_right, opcode_of-leaf, opcode_of-both, opcode_of-either, opcode_of-negate, skip_false_of, skip_next_of}
 use Rattle.req_blob.proofs.Leaves as leaves
 use Rattle.req_blob.proofs.Leaves.{LeafRead, leaf_taken, made}
 

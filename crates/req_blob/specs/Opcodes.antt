@@ -5,29 +5,6 @@ use Rattle.req_blob.specs.declared.opcode.Leaf.TheVariants as l
 use Rattle.req_blob.specs.declared.opcode.Opcode.{Opcode}
 use Rattle.req_blob.specs.declared.opcode.Opcode.TheVariants as o
 
--- the number of an opcode without subexpressions
-abbrev pub leaf_number : Leaf → ℕ
-leaf_number l.Never = 0
-leaf_number l.Always = 1
-leaf_number l.Ident = 2
-leaf_number l.AppleAnchor = 3
-leaf_number l.AnchorHash = 4
-leaf_number l.LegacyInfo = 5
-leaf_number l.CdHash = 8
-leaf_number l.InfoField = 10
-leaf_number l.CertField = 11
-leaf_number l.TrustedCert = 12
-leaf_number l.TrustedAny = 13
-leaf_number l.CertOid = 14
-leaf_number l.AppleGeneric = 15
-leaf_number l.EntitlementField = 16
-leaf_number l.CertPolicy = 17
-leaf_number l.NamedAnchor = 18
-leaf_number l.NamedCode = 19
-leaf_number l.Platform = 20
-leaf_number l.Notarized = 21
-leaf_number l.LegacyDevId = 23
-
 -- what a word with an unknown number is, by its two highest bits
 abbrev pub unknown_of : ℕ → Opcode
 unknown_of first = if nat_lt first (2 ^ 30) then o.Unknown else (if nat_lt first (2 ^ 31) then o.SkipNext else o.SkipFalse)

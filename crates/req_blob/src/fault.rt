@@ -10,7 +10,7 @@ use req_tree::LineText;
 use std::alloc::{AllocError, AllocFailed};
 
 /// The first check that failed. `at` is where the word or the datum begins, from the start of the blob.
-#[derive(Clone, Copy, Debug, Drop, PartialEq, Eq, Hash)]
+#[derive(Clone, Copy, Drop, PartialEq, Eq)]
 pub enum OpsFault {
     /// The bytes begin with no requirement blob.
     Blob(BlobFault),

@@ -4,7 +4,7 @@ ghost use Rattle.std.specs.Prelude.{◌≡◌};
 ghost use Rattle.req_blob.specs.Opcodes as spec;
 
 /// An opcode without subexpressions.
-#[derive(Clone, Copy, Debug, Drop)]
+#[derive(Clone, Copy, Drop)]
 pub(crate) enum Leaf {
     Never,
     Always,
@@ -29,7 +29,7 @@ pub(crate) enum Leaf {
 }
 
 /// An opcode, with its flags taken into account.
-#[derive(Clone, Copy, Debug, Drop)]
+#[derive(Clone, Copy, Drop)]
 pub(crate) enum Opcode {
     Leaf(Leaf),
     Both,

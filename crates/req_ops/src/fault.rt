@@ -5,7 +5,7 @@ use req_blob::OpsFault;
 use req_tree::LineText;
 
 /// Why bytes are no set of requirements: the first of these. An `index` counts the entries from 0.
-#[derive(Clone, Copy, Debug, Drop, PartialEq, Eq, Hash)]
+#[derive(Clone, Copy, Drop, PartialEq, Eq)]
 pub enum SetFault {
     /// The bytes begin with no super-blob of sets.
     Blob(BlobFault),

@@ -3,7 +3,7 @@
 use std::alloc::{AllocError, AllocFailed};
 
 /// Why a text is no object identifier: arcs are read from the left, and the first bad one decides.
-#[derive(Clone, Copy, Debug, Drop, PartialEq, Eq, Hash)]
+#[derive(Clone, Copy, Drop, PartialEq, Eq)]
 pub enum OidFault {
     /// An arc isn't `0` or digits that begin with another, or one of the first two is out of its bounds.
     BadArc,
@@ -15,7 +15,7 @@ pub enum OidFault {
 }
 
 /// Why bytes are no object identifier.
-#[derive(Clone, Copy, Debug, Drop, PartialEq, Eq, Hash)]
+#[derive(Clone, Copy, Drop, PartialEq, Eq)]
 pub enum OidBytesFault {
     /// They aren't whole numbers in base 128 and the fewest bytes, each below 2^32, or there are none.
     BadOid,

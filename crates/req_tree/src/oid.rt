@@ -8,7 +8,7 @@ use line_text::Bytes;
 use std::marker::Model;
 
 /// An object identifier: the contents of its BER encoding (ITU-T X.690, 8.19).
-#[derive(Debug, Drop)]
+#[derive(Drop)]
 pub struct Oid {
     bytes: Bytes,
 }

@@ -1,5 +1,5 @@
 use Rattle.std.proofs.Common.{arith, sym, ◌∙◌}
-use Rattle.cs_blob.proofs.BlobLemmas.{blob_read, kind_is, in_bounds, same_blob}
+use Rattle.cs_blob.proofs.BlobsAtFronts.{blob_read, kind_is, in_bounds, same_blob}
 use Rattle.cs_blob.proofs.blob.Blob.read.Goals as goal
 
 pub returns-then-number-magic-clause-only : goal.returns-then-number-magic-clause-only

@@ -1,6 +1,6 @@
 use Rattle.std.proofs.Common.{subst, List, ℕ}
 use Rattle.cs_blob.specs.SuperBlobs.{IndexFails}
-use Rattle.cs_blob.proofs.SuperLemmas.{fails_behind}
+use Rattle.cs_blob.proofs.NoSuperFault.{fails_behind}
 use Rattle.cs_blob.proofs.super_blob.SuperBlob.read.Goals as goal
 
 pub returns-in-Err-clause-first : goal.returns-in-Err-clause-first

@@ -1,7 +1,7 @@
 use Rattle.std.proofs.Common.{◌≡◌, ◌<◌, List, Some, None, false, arith, inl, sym, ap, ◌∙◌, subst, length}
 use Rattle.cs_blob.specs.Writing.{Draft, has_kind, add_fault, total_of}
 use Rattle.cs_blob.specs.declared.fault.WriterFault.TheVariants.{TooLong}
-use Rattle.cs_blob.proofs.WriterLemmas.{Part, draft-grown, fits_when, long_when}
+use Rattle.cs_blob.proofs.PartsWritten.{Part, draft-grown, fits_when, long_when}
 use Rattle.cs_blob.proofs.writer.SuperWriter.add.Goals as goal
 
 pub returns-then-self-part-gt-GREATEST_SIZE-clause-first : goal.returns-then-self-part-gt-GREATEST_SIZE-clause-first

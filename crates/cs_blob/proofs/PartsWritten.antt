@@ -1,4 +1,4 @@
--- A super-blob that was written reads back as its parts.
+-- How long the parts of a super-blob are that is written, what its header holds, and which part is added.
 use Rattle.std.proofs.Common.{◌≡◌, ℕ, suc, ◌+◌, ◌*◌, ◌<◌, ◌≤◌, ◌^◌, Bool, true, false, ◌||◌, ◌==◌, nat_lt, nat_le, if◌then◌else◌, List, [], ◌∷◌, ◌++◌, length, refl, sym, ap, subst, ◌∙◌, append_assoc, arith, None, Some, length-append}
 use Rattle.std.proofs.lemmas.Bool.Decides.{nat_tests}
 use Rattle.byteorder.specs.Numbers.{length-bytes_high_first}
@@ -7,7 +7,7 @@ use Rattle.cs_blob.specs.Blobs.{IsSized}
 use Rattle.cs_blob.specs.SuperBlobs.{count_of}
 use Rattle.cs_blob.specs.Writing.{Draft, has_kind, body_bytes, total_of, add_fault, index_bytes, written, AreParts, IsDraft}
 use Rattle.cs_blob.specs.declared.fault.WriterFault.TheVariants.{PartTwice, TooManyParts, TooLong}
-use Rattle.cs_blob.proofs.NumberLemmas.{number_at-behind, number_at-written}
+use Rattle.cs_blob.proofs.NumbersPlaced.{number_at-behind, number_at-written}
 
 -- a part: its type and its bytes
 abbrev pub Part : Type 0

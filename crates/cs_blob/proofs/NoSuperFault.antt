@@ -1,10 +1,10 @@
--- What the reader of super-blobs leans on.
+-- Bytes that begin with a super-blob have no fault, and an index fails where the blob before it is read.
 use Rattle.std.proofs.Common.{◌≡◌, ℕ, ◌≤◌, List, ◌++◌, length, sym, subst, arith, inl, inr}
 use Rattle.cs_blob.specs.Blobs.{IsBlob}
 use Rattle.cs_blob.specs.SuperBlobs.{IsSuperBlob, IndexFails, SuperFails, count_of, index_end}
 use Rattle.cs_blob.specs.declared.fault.BlobFault.{BlobFault}
 use Rattle.cs_blob.specs.declared.fault.BlobFault.TheVariants.{Short, BadMagic, BadLength, TooManyParts, PartOutside, PartOverlap, PartTwice}
-use Rattle.cs_blob.proofs.BlobLemmas.{no_fault, whole_is, no_blob}
+use Rattle.cs_blob.proofs.BlobsAtFronts.{no_fault, whole_is, no_blob}
 
 -- an index that fails after the blob was read
 pub fails_behind : (magic : ℕ) (bytes whole rest : List ℕ) (fault : BlobFault) → IsBlob magic whole → bytes ≡ whole ++ rest → IndexFails whole fault → SuperFails magic bytes fault

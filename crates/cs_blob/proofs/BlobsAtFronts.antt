@@ -1,4 +1,4 @@
--- What the readers of blobs lean on.
+-- Bytes begin with one blob at most, and what begins with one has no fault.
 use Rattle.std.proofs.Common.{◌≡◌, ℕ, ◌+◌, ◌≤◌, Bool, true, false, List, ◌++◌, length, take, drop, refl, sym, ap, ◌∙◌, arith, Option, None, Some, [], ◌∷◌, ◌==◌, nat_lt, ◌||◌, if◌then◌else◌, length-append}
 use Rattle.std.proofs.Math.Seq.{drop-append_seam}
 use Rattle.std.proofs.lemmas.Bool.Decides.{nat_tests}
@@ -6,7 +6,7 @@ use Rattle.std.proofs.lemmas.List.{take-append-drop, length-take-le}
 use Rattle.cs_blob.specs.Numbers.{number_at}
 use Rattle.cs_blob.specs.Blobs.{IsBlob, blob_fault}
 use Rattle.cs_blob.specs.declared.fault.BlobFault.{BlobFault}
-use Rattle.cs_blob.proofs.NumberLemmas.{number_at-take, number_at-front}
+use Rattle.cs_blob.proofs.NumbersPlaced.{number_at-take, number_at-front}
 
 -- the front of a length that the header tells is a blob
 pub blob_read : (magic n : ℕ) (bytes whole rest : List ℕ) → 8 ≤ n → n ≤ length bytes → number_at 0 bytes ≡ magic → number_at 4 bytes ≡ n → whole ≡ take n bytes → rest ≡ drop n bytes
