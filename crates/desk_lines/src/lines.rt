@@ -19,7 +19,7 @@ use line_words::LineFault;
 use session_model::laws::the_front_asks_the_same;
 use std::alloc::{AllocError, Global};
 
-/// A desk, with what it answered since it was fresh.
+/// A desk that is lent, and answers lines.
 #[derive(Drop)]
 pub struct DeskLines<'a> {
     desk: &'a mut Desk,

@@ -16,6 +16,7 @@ use line_words::{Cursor, LineFault};
 use req_tree::Subject;
 use std::alloc::{AllocError, Global};
 
+/// What a line asks for.
 #[derive(Drop)]
 pub enum Request {
     Tick(Moment),
@@ -23,7 +24,7 @@ pub enum Request {
     Edit(Edit),
 }
 
-/// Why a line makes no request.
+/// Why a line makes no request: the first fault in it, or memory ran out.
 #[derive(Drop)]
 pub enum Unread {
     Refused(LineFault),

@@ -50,7 +50,7 @@ fn is_cut(
 fn each_call_that_fails_ends_the_session(rt: HostRuntime) -> Result<(), Fail> {
     for (reading, writing, end, written) in FAILURES {
         let is = is_cut(rt.alloc(), reading, writing, end, written)?;
-        assert!(rt; is, "at {reading:?} {writing:?}");
+        assert!(rt; is);
     }
     Ok(())
 }

@@ -26,7 +26,7 @@ fn is_refused_alone(alloc: Global, length: usize) -> Result<bool, AllocError> {
 fn a_line_past_its_limit_is_refused_alone(rt: HostRuntime) -> Result<(), Fail> {
     for length in 8_191..8_195 {
         let is = is_refused_alone(rt.alloc(), length)?;
-        assert!(rt; is, "at {length}");
+        assert!(rt; is);
     }
     Ok(())
 }

@@ -59,9 +59,9 @@ fn is_run(
 
 #[test]
 fn sessions_are_answered(rt: HostRuntime) -> Result<(), Fail> {
-    for (name, lines, replies) in SESSIONS {
+    for (_name, lines, replies) in SESSIONS {
         let is = is_run(rt.alloc(), &SESSION, lines, Status::Fine, replies)?;
-        assert!(rt; is, "at {name}");
+        assert!(rt; is);
     }
     Ok(())
 }
@@ -108,9 +108,9 @@ fn is_answered_one_by_one(alloc: Global, bytes: &[u8], written: &[u8]) -> Result
 
 #[test]
 fn bytes_that_come_one_by_one_are_the_same_lines(rt: HostRuntime) -> Result<(), Fail> {
-    for (name, lines, replies) in SESSIONS {
+    for (_name, lines, replies) in SESSIONS {
         let is = is_answered_one_by_one(rt.alloc(), lines, replies)?;
-        assert!(rt; is, "at {name}");
+        assert!(rt; is);
     }
     Ok(())
 }
