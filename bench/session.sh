@@ -1,8 +1,8 @@
 #!/usr/bin/env bash
 # usage: bench/session.sh [RUNS [RULES..]]
-# Times a session of ticks and assessments over so many rules (10, 100, 1,000 and 10,000), in the freshly built
-# proved program and in a plain Rust loop, in turn, and prints the medians of RUNS as a table. Both have to print
-# the same. The time of adding the rules is measured apart, and taken off.
+# Times sessions that add so many rules (10, 100, 1,000 and 10,000) and then tick and assess by turns, in the freshly
+# built proved program and in a plain Rust loop, one after the other, and prints as a table the median processor
+# time of RUNS. Both have to print the same.
 cd "$(dirname "$0")/.." || exit 1
 
 runs=${1:-7}
@@ -31,14 +31,11 @@ session() {
     }'
 }
 
-# nanoseconds FILE PROGRAM..
-nanoseconds() {
-  local file=$1 begin end
+# milliseconds of processor, the program's own and the system's for it: FILE PROGRAM..
+milliseconds() {
+  local file=$1 TIMEFORMAT="%3U %3S"
   shift
-  begin=$(date +%s%N)
-  "$@" <"$file" >"$work/out" || exit 1
-  end=$(date +%s%N)
-  echo $((end - begin))
+  { time "$@" <"$file" >"$work/out"; } 2>&1 | awk '{ printf "%d\n", ($1 + $2) * 1000 }'
 }
 
 median() {
@@ -48,22 +45,17 @@ median() {
 echo "| Rules | Lines | Plain Rust loop | gatekeeper | Times as long |"
 echo "|---|---|---|---|---|"
 for rules in $sizes; do
-  lines=$((rules < 1000 ? 200000 : 50000000 / rules))
-  session "$rules" 0 >"$work/rules"
+  lines=$((rules < 1000 ? 500000 : 200000000 / rules))
   session "$rules" "$lines" >"$work/session"
   "$work/plain" <"$work/session" >"$work/plain.out" || exit 1
   build/gatekeeper :memory: session <"$work/session" >"$work/proved.out" || exit 1
   cmp "$work/plain.out" "$work/proved.out" || exit 1
-  rm -f "$work"/*.ns
+  rm -f "$work"/*.ms
   for _ in $(seq "$runs"); do
-    nanoseconds "$work/rules" "$work/plain" >>"$work/plain_rules.ns"
-    nanoseconds "$work/rules" build/gatekeeper :memory: session >>"$work/proved_rules.ns"
-    nanoseconds "$work/session" "$work/plain" >>"$work/plain.ns"
-    nanoseconds "$work/session" build/gatekeeper :memory: session >>"$work/proved.ns"
+    milliseconds "$work/session" "$work/plain" >>"$work/plain.ms"
+    milliseconds "$work/session" build/gatekeeper :memory: session >>"$work/proved.ms"
   done
-  plain=$(($(median "$work/plain.ns") - $(median "$work/plain_rules.ns")))
-  proved=$(($(median "$work/proved.ns") - $(median "$work/proved_rules.ns")))
-  awk -v rules="$rules" -v lines="$lines" -v a="$plain" -v b="$proved" 'BEGIN {
-    printf "| %d | %d | %d lines/s | %d lines/s | %.2f |\n", rules, lines, lines * 1e9 / a, lines * 1e9 / b, b / a
+  awk -v rules="$rules" -v lines="$lines" -v a="$(median "$work/plain.ms")" -v b="$(median "$work/proved.ms")" 'BEGIN {
+    printf "| %d | %d | %d ms | %d ms | %.2f |\n", rules, lines, a, b, b / a
   }'
 done

@@ -41,8 +41,17 @@ impl ShortReq {
         match self {
             ShortReq::Always => true,
             ShortReq::Never => false,
-            ShortReq::CdHash(hash) => subject.cdhash == *hash,
+            ShortReq::CdHash(hash) => is_hash(&subject.cdhash, hash),
             ShortReq::Long => tree.req().holds_without_facts(subject),
         }
     }
+}
+
+ghost use Rattle.std.specs.Prelude.{bytes_eq};
+
+/// Whether two digests are one. Most differ in their first byte, which is looked at in place.
+fn is_hash(one: &Hash20, other: &Hash20) -> bool
+    ensures { result ≡ bytes_eq one.now.bytes other.now.bytes }
+{
+    one.bytes[0] == other.bytes[0] && one == other
 }
