@@ -1,4 +1,5 @@
 //! The devices in memory, each call once and each failure that is named; and lines of a source.
+use crate::named_calls::numbers;
 use gk_io::{
     CallNumbers, Clock, Failed, Fetched, MemoryClock, MemoryFile, MemoryShelf, MemorySink,
     MemorySource, Shelf, ShelfFault, Sink, Source, read_whole,
@@ -6,14 +7,6 @@ use gk_io::{
 use line_reader::{LineRead, LineReader};
 use std::alloc::{AllocError, Global};
 use std::test::Fail;
-
-fn numbers(alloc: Global, calls: &[u64]) -> Result<CallNumbers, AllocError> {
-    let mut list = CallNumbers::new(alloc);
-    for call in calls {
-        list.push(*call)?;
-    }
-    Ok(list)
-}
 
 fn source_of(alloc: Global, bytes: &[u8], failing: &[u64]) -> Result<MemorySource, AllocError> {
     Ok(MemorySource::new(Vec::from_slice(alloc, bytes)?, numbers(alloc, failing)?))

@@ -2,6 +2,7 @@
 
 ghost use Rattle.std.specs.Prelude.{ℕ, List, None};
 
+use crate::named_calls::numbers;
 use gk_io::{CallNumbers, Failed, MemorySink, MemorySource, Sink, Source};
 use line_session::{Ended, Responder, run_session};
 use line_text::LineText;
@@ -92,12 +93,6 @@ impl Sink for Count {
     }
 }
 
-fn failing(alloc: Global, call: u64) -> Result<CallNumbers, AllocError> {
-    let mut numbers = CallNumbers::new(alloc);
-    numbers.push(call)?;
-    Ok(numbers)
-}
-
 // The call that fails, and the replies of an echo to `a LF b LF c` before it, a byte a call.
 const READ_FAILS: [(u64, &[u8], u64); 6] = [
     (1, b"", 0),
@@ -116,7 +111,7 @@ fn is_read_fault(
 ) -> Result<bool, AllocError> {
     let bytes = b"a\nb\nc".to_vec(alloc)?;
     let mut output = MemorySink::with_room(alloc, 100, CallNumbers::new(alloc))?;
-    let inner = MemorySource::new(bytes, failing(alloc, call)?);
+    let inner = MemorySource::new(bytes, numbers(alloc, &[call])?);
     let mut input = Trickle { inner };
     let mut echo = Echo { answers: 0 };
     let ended = run_session(alloc, &mut echo, &mut input, &mut output);
@@ -158,8 +153,7 @@ fn is_write_fault(
     answers: u64,
 ) -> Result<bool, AllocError> {
     let bytes = b"a\nb\nc".to_vec(alloc)?;
-    let mut calls = failing(alloc, call)?;
-    calls.push(call.saturating_add(1))?;
+    let calls = numbers(alloc, &[call, call.saturating_add(1)])?;
     let mut output = MemorySink::with_room(alloc, 100, calls)?;
     let mut input = MemorySource::new(bytes, CallNumbers::new(alloc));
     let mut echo = Echo { answers: 0 };

@@ -1,7 +1,7 @@
 //! What reading a line comes to.
 
 /// How the bytes went on, where the source didn't fail.
-#[derive(Clone, Copy, Debug, PartialEq, Eq)]
+#[derive(Clone, Copy, PartialEq, Eq)]
 pub enum LineRead {
     /// A line with its LF.
     Line,

@@ -1,7 +1,7 @@
 //! How a session ends.
 
 /// Why a session read no further line.
-#[derive(Clone, Copy, Debug, PartialEq, Eq)]
+#[derive(Clone, Copy, PartialEq, Eq)]
 pub enum Ended {
     /// The source was read to its end, and every line was answered.
     Fine,

@@ -15,7 +15,7 @@ use line_text::LineText;
 use std::alloc::{AllocError, Global};
 
 /// What became of one line's reply.
-#[derive(Clone, Copy, Debug, PartialEq, Eq)]
+#[derive(Clone, Copy)]
 pub enum Reply {
     /// It was written with its LF, and flushed.
     Whole,
