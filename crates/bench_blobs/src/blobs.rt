@@ -10,7 +10,7 @@ const ENTITLEMENTS: u32 = 0xfade7171;
 
 const PART: &[u8] = b"\xfa\xde\x71\x71\0\0\0\x0c\0\0\0\0";
 
-/// How many parts were found, and `None` where memory was wanting.
+/// How many parts were found, and `None` where there was no memory.
 pub fn read_whole(alloc: Global, times: u64) -> Option<u64> {
     let whole = written(alloc)?;
     let mut parts = 0u64;

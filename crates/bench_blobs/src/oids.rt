@@ -3,7 +3,7 @@
 use req_tree::{oid_from_text, oid_to_text};
 use std::alloc::Global;
 
-/// How many bytes of text were printed, and `None` where memory was wanting.
+/// How many bytes of text were printed, and `None` where there was no memory.
 pub fn read_and_print(alloc: Global, times: u64) -> Option<u64> {
     let mut bytes = 0u64;
     for _ in 0..times {

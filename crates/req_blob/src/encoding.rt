@@ -73,7 +73,7 @@ fn with_header(alloc: Global, size: u32, expression: &[u8]) -> Result<Bytes, All
     Ok(Bytes::from_vec(out))
 }
 
-/// The refusal where memory was wanting: a requirement that is too long is that still.
+/// The refusal where there was no memory: a requirement that is too long is refused as that still.
 fn wanting(req: &Req) -> OpsFault
     ensures long { (result ≡ OpsFault.TooLong) ↔ (MOST_BYTES < length (plain_blob (tree_of req.now))) }
     ensures fault { (result ≡ OpsFault.OutOfMemory) ⊎ (result ≡ OpsFault.TooLong) }
