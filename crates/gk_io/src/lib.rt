@@ -23,6 +23,7 @@ pub use call_numbers::CallNumbers;
 pub use clock::Clock;
 pub use fault::Failed;
 pub use file_shelf::FileShelf;
+pub use line_text::LineText;
 pub use memory_clock::MemoryClock;
 pub use memory_shelf::{MemoryFile, MemoryShelf};
 pub use memory_sink::MemorySink;

@@ -8,7 +8,7 @@ use crate::fault::Failed;
 use std::alloc::{AllocError, Global};
 
 /// What became of a file that was asked for.
-#[derive(Clone, Copy, Debug, PartialEq, Eq)]
+#[derive(Clone, Copy, PartialEq, Eq)]
 pub enum Fetched {
     /// Its bytes were handed over.
     Found,
@@ -19,7 +19,7 @@ pub enum Fetched {
 }
 
 /// Why a file couldn't be fetched.
-#[derive(Clone, Copy, Debug, Drop, PartialEq, Eq)]
+#[derive(Clone, Copy, Drop, PartialEq, Eq)]
 pub enum ShelfFault {
     /// The shelf failed: the file is there and can't be read, or the system doesn't say.
     Failed,
