@@ -1,13 +1,11 @@
 -- A desk goes on with its history, and answers by it.
-use Rattle.std.proofs.Common.{◌≡◌, ◌<◌, List, [], ◌∷◌, ◌++◌, length, refl, sym, ap, subst, ◌∙◌, arith, Option, Some, None}
+use Rattle.std.proofs.Common.{◌≡◌, List, [], ◌∷◌, ◌++◌, refl, sym, ap, ◌∙◌, Option, Some, None}
 use Rattle.std.specs.Prelude.{IsSome, false}
 use Rattle.std.proofs.lemmas.Bool.{both_ways}
-use Rattle.std.proofs.lemmas.Bool.Decides.{nat_tests}
 use Rattle.req_tree.specs.Subject.{Subject}
-use Rattle.policy_model.specs.declared.limits.TheConstants.{MOST_RULES, MOST_RECEIPTS}
 use Rattle.policy_model.specs.Rules.{Kind}
-use Rattle.policy_model.specs.Contents.{NewRow, add, Edit}
-use Rattle.policy_model.specs.Tables.{Tables, Receipt, Answer, IsAccepted, Effect}
+use Rattle.policy_model.specs.Contents.{Edit}
+use Rattle.policy_model.specs.Tables.{Tables, Receipt, Answer, Effect}
 use Rattle.policy_model.specs.Refusals.{refusal}
 use Rattle.policy_model.specs.Edits.{does, does_at, at_new, kept}
 use Rattle.policy_model.specs.Outcomes.{Ask, Verdict, verdict, verdict_on, verdict_by, outcome_by}
@@ -57,19 +55,3 @@ given_tables d old new (Some a) some h = h.1
 -- what an edit that was answered leaves is the definition's
 pub done_tables : (t : Tables) (e : Edit) (new : Tables) (g : Option Answer) → None ≡ kept t.receipts e.key → IsDone (at_new (refusal e.content t) e t) t new g → IsSome g → new ≡ (does t e).tables
 done_tables t e new g k h some = given_tables (at_new (refusal e.content t) e t) t new g some h ∙ ap (λ x. x.tables) (new_does t e k)
-
--- an edit that isn't refused is accepted
-pub not_refused : (e : Edit) (t new : Tables) (r g : Option Answer) → r ≡ None → IsDone (at_new None e t) t new g → IsDone (at_new r e t) t new g
-not_refused e t new r g none h = subst (λ r. IsDone (at_new r e t) t new g) (sym none) h
-
-pub accepts : (e : Edit) (t : Tables) (r : Option Answer) → r ≡ None → IsAccepted (at_new r e t).answer
-accepts e t r none = subst (λ r. IsAccepted (at_new r e t).answer) (sym none) tt
-
--- a refusal is the answer, and changes nothing
-pub is_refused : (e : Edit) (t : Tables) (r : Option Answer) → IsSome r → IsDone (at_new r e t) t t r
-is_refused e t None some = absurd (both_ways false refl some)
-is_refused e t (Some a) some = (refl, refl)
-
--- where an added rule isn't refused there is room for it and for its receipt
-pub has_room : (n : NewRow) (t : Tables) → refusal (add n) t ≡ None → (length t.rows < MOST_RULES) × (length t.receipts < MOST_RECEIPTS)
-has_room n t none = grind (arith, nat_tests, none)
