@@ -1,11 +1,11 @@
 #!/usr/bin/env bash
 # usage: bench/session.sh [RUNS [RULES..]]
 # Times sessions that add so many rules (10, 100, 1,000 and 10,000) and then tick and assess by turns, in the freshly
-# built proved program and in a plain Rust loop, one after the other, and prints as a table the median processor
-# time of RUNS. Both have to print the same.
+# built proved program and in a plain Rust loop, one after the other, and prints as a table the medians of RUNS: the
+# processor time of each, and how many times as long the program took as the loop beside it. Both have to print the same.
 cd "$(dirname "$0")/.." || exit 1
 
-runs=${1:-7}
+runs=${1:-15}
 shift
 sizes=${*:-10 100 1000 10000}
 work=$(mktemp -d)
@@ -55,7 +55,7 @@ for rules in $sizes; do
     milliseconds "$work/session" "$work/plain" >>"$work/plain.ms"
     milliseconds "$work/session" build/gatekeeper :memory: session >>"$work/proved.ms"
   done
-  awk -v rules="$rules" -v lines="$lines" -v a="$(median "$work/plain.ms")" -v b="$(median "$work/proved.ms")" 'BEGIN {
-    printf "| %d | %d | %d ms | %d ms | %.2f |\n", rules, lines, a, b, b / a
-  }'
+  paste "$work/plain.ms" "$work/proved.ms" | awk '{ print $2 / $1 }' >"$work/times.ms"
+  awk -v rules="$rules" -v lines="$lines" -v a="$(median "$work/plain.ms")" -v b="$(median "$work/proved.ms")" \
+    -v times="$(median "$work/times.ms")" 'BEGIN { printf "| %d | %d | %d ms | %d ms | %.2f |\n", rules, lines, a, b, times }'
 done
