@@ -12,8 +12,8 @@ pub always_text : IsRuleText (codes "always")
 always_text = record {
   short = omega arith;
   one_line =
-    All-cons NotLineEnd 97 (codes "lways") (λ e. omega (arith, e)) (All-cons NotLineEnd 108 (codes "ways") (λ e. omega (arith, e)) (All-cons NotLineEnd 119 (codes "ays") (λ e. omega (arith, e))
-    (All-cons NotLineEnd 97 (codes "ys") (λ e. omega (arith, e)) (All-cons NotLineEnd 121 (codes "s") (λ e. omega (arith, e)) (All-cons NotLineEnd 115 [] (λ e. omega (arith, e)) (All-nil NotLineEnd))))));
+      All-cons NotLineEnd 97 (codes "lways") (λ e. omega (arith, e)) (All-cons NotLineEnd 108 (codes "ways") (λ e. omega (arith, e)) (All-cons NotLineEnd 119 (codes "ays") (λ e. omega (arith, e))
+      (All-cons NotLineEnd 97 (codes "ys") (λ e. omega (arith, e)) (All-cons NotLineEnd 121 (codes "s") (λ e. omega (arith, e)) (All-cons NotLineEnd 115 [] (λ e. omega (arith, e)) (All-nil NotLineEnd))))));
 }
 
 pub always_read : (text : List ℕ) (tree : Tree) → text ≡ codes "always" → tree ≡ always → IsRequirement text tree
