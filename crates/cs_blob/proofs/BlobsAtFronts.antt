@@ -6,6 +6,7 @@ use Rattle.std.proofs.lemmas.List.{take-append-drop, length-take-le}
 use Rattle.cs_blob.specs.Numbers.{number_at}
 use Rattle.cs_blob.specs.Blobs.{IsBlob, blob_fault}
 use Rattle.cs_blob.specs.declared.fault.BlobFault.{BlobFault}
+use Rattle.cs_blob.specs.declared.fault.BlobFault.TheVariants.{Short, BadMagic, BadLength}
 use Rattle.cs_blob.proofs.NumbersPlaced.{number_at-take, number_at-front}
 
 -- the front of a length that the header tells is a blob
@@ -92,3 +93,30 @@ some_fault fault o h k = cc
 
 pub no_blob : (magic : ℕ) (bytes whole rest : List ℕ) (fault : BlobFault) → blob_fault magic bytes ≡ Some fault → IsBlob magic whole → bytes ≡ whole ++ rest → ⊥
 no_blob magic bytes whole rest fault h blob is = some_fault fault _ (no_fault magic bytes whole rest blob is) h
+
+-- a header without a fault
+header_is : (magic : ℕ) (bytes : List ℕ) → blob_fault magic bytes ≡ None → (number_at 0 bytes ≡ magic) × (8 ≤ number_at 4 bytes) × (number_at 4 bytes ≤ length bytes)
+header_is magic bytes h = by_tests (nat_lt (length bytes) 8) (number_at 0 bytes == magic) (nat_lt (number_at 4 bytes) 8) (nat_lt (length bytes) (number_at 4 bytes)) refl refl refl h
+  where
+    none : Option BlobFault
+    none = None
+
+    by_tests : (s k l m : Bool) → (number_at 0 bytes == magic) ≡ k → nat_lt (number_at 4 bytes) 8 ≡ l → nat_lt (length bytes) (number_at 4 bytes) ≡ m
+        → (if s then Some Short else (if k then (if l || m then Some BadLength else None) else Some BadMagic)) ≡ None
+        → (number_at 0 bytes ≡ magic) × (8 ≤ number_at 4 bytes) × (number_at 4 bytes ≤ length bytes)
+    by_tests true k l m e f g h = absurd cc
+    by_tests false false l m e f g h = absurd cc
+    by_tests false true true m e f g h = absurd cc
+    by_tests false true false true e f g h = absurd cc
+    by_tests false true false false e f g h = (grind (arith, nat_tests, e), grind (arith, nat_tests, f), grind (arith, nat_tests, g))
+
+-- bytes without a fault begin with a blob, as long as its header tells
+pub found_at_front : (magic : ℕ) (bytes : List ℕ) → blob_fault magic bytes ≡ None → IsBlob magic (take (number_at 4 bytes) bytes)
+found_at_front magic bytes h =
+    let facts = header_is magic bytes h in
+    (blob_read magic (number_at 4 bytes) bytes (take (number_at 4 bytes) bytes) (drop (number_at 4 bytes) bytes) facts.1 facts.2 facts.0 refl refl refl).0
+
+-- the front of bytes that begin with a blob has no fault, and its header tells where the blob ends
+pub only_at_front : (magic : ℕ) (bytes whole rest : List ℕ) → IsBlob magic whole → bytes ≡ whole ++ rest
+    → (blob_fault magic bytes ≡ None) × (take (number_at 4 bytes) bytes ≡ whole) × (drop (number_at 4 bytes) bytes ≡ rest)
+only_at_front magic bytes whole rest blob is = (no_fault magic bytes whole rest blob is, whole_is magic bytes whole rest blob is, rest_is magic bytes whole rest blob is)

@@ -1,11 +1,12 @@
 -- What a requirement blob that is read holds, and that it is read again.
-use Rattle.std.proofs.Common.{◌≡◌, ℕ, ◌+◌, ◌^◌, ◌<◌, ◌≤◌, Bool, true, false, cond, eqb, ltb, ◌==◌, nat_lt, ◌||◌, if◌then◌else◌, List, [], ◌∷◌, ◌++◌, length, take, drop, Option, Some, None, Result, Ok, Err, refl, sym, ap, subst, ◌∙◌, arith, length-append}
+use Rattle.std.proofs.Common.{◌≡◌, ℕ, ◌+◌, ◌^◌, ◌<◌, ◌≤◌, Bool, true, false, cond, eqb, ltb, List, [], ◌∷◌, ◌++◌, length, take, drop, Option, Some, None, Result, Ok, Err, refl, sym, ap, subst, ◌∙◌, arith, length-append}
 use Rattle.std.specs.Prelude.{IfOk}
 use Rattle.std.specs.Int.{w32, from_be_bytes}
 use Rattle.std.proofs.lemmas.Bool.{ltb-false, le-ltb, eqb-true}
-use Rattle.std.proofs.lemmas.Bool.Decides.{nat_tests}
-use Rattle.std.proofs.lemmas.List.{take_at, drop_at, append-nil, nil_from_length, length-drop}
+use Rattle.std.proofs.Math.Seq.{drop-append-add}
+use Rattle.std.proofs.lemmas.List.{take_at, drop_at, append-nil, nil_from_length, length-drop, take-append-drop}
 use Rattle.byteorder.specs.Endian.{big_number}
+use Rattle.byteorder.specs.Numbers.{big_number-reads_back}
 use Rattle.req_tree.specs.Tree.{Tree, tree_of}
 use Rattle.req_tree.specs.declared.limits.TheConstants.{MOST_DEPTH}
 use Rattle.req_tree.specs.Spellable.{IsShallow}
@@ -14,15 +15,13 @@ use Rattle.req_tree.specs.Oid.{IsBytes}
 use Rattle.cs_blob.specs.Numbers.{word, number_at}
 use Rattle.cs_blob.specs.Blobs.{IsBlob, blob_fault}
 use Rattle.cs_blob.specs.declared.fault.BlobFault.{BlobFault}
-use Rattle.cs_blob.specs.declared.fault.BlobFault.TheVariants.{Short, BadMagic, BadLength}
-use Rattle.cs_blob.proofs.NumbersPlaced.{number_at-behind, number_at-written}
-use Rattle.cs_blob.proofs.BlobsAtFronts.{blob_read, no_fault, whole_is, rest_is}
 use Rattle.req_blob.specs.declared.fault.OpsFault.{OpsFault}
 use Rattle.req_blob.specs.declared.fault.OpsFault.TheVariants as fault
 use Rattle.req_blob.specs.Spelling.{Spells, IsSpelling, requirement, requirement_magic}
 use Rattle.req_blob.specs.Reading.{◌>>=◌, Gives, place, word_at, req_at}
 use Rattle.req_blob.specs.declared.limits.TheConstants.{MOST_BYTES}
 use Rattle.req_blob.specs.Decoding.{blob_when, blob_at, body_at, ended, whole_of, decoded}
+use Rattle.req_blob.proofs.LawsBelow.{OidIsRead, BlobIsFound, OnlyBlob}
 use Rattle.req_blob.proofs.Fields.{bind_ok, ok_is, Takes, IsBytes-drop, IsBytes-take, length-word, word_takes, word_again}
 use Rattle.req_blob.proofs.Trees.{req_taken, req_again}
 
@@ -68,8 +67,13 @@ blob_parts magic whole are blob =
     word_front whole are (omega (arith, header)) ∙ ap (λ (n : ℕ). word n ++ drop 4 whole) blob.kind ∙ ap (λ (r : List ℕ). word magic ++ r) behind
 
 written_number : (n : ℕ) (rest : List ℕ) → n < 2 ^ 32 → number_at 0 (word n ++ rest) ≡ n
-unfolding word
-written_number n rest small = number_at-written n rest small
+unfolding number_at word
+written_number n rest small = big_number-reads_back 4 n rest small
+
+-- bytes before a number move its place
+number_at-behind : (xs ys : List ℕ) (place : ℕ) → number_at (length xs + place) (xs ++ ys) ≡ number_at place ys
+unfolding number_at
+number_at-behind xs ys place = ap (big_number 4) (drop-append-add xs ys place)
 
 -- bytes with a header that tells their length are a blob
 is_blob : (magic n : ℕ) (body : List ℕ) → magic < 2 ^ 32 → n < 2 ^ 32 → n ≡ 8 + length body → IsBlob magic (word magic ++ (word n ++ body))
@@ -107,35 +111,20 @@ length-requirement expression =
 
 -- ---- the code's blob
 
-pub blob_taken : (bytes whole rest : List ℕ) → IsBlob requirement_magic whole × (bytes ≡ whole ++ rest) → blob_at bytes ≡ Ok (whole, rest)
+-- bytes that begin with the blob are taken apart there
+pub blob_taken : OnlyBlob → (bytes whole rest : List ℕ) → IsBlob requirement_magic whole × (bytes ≡ whole ++ rest) → blob_at bytes ≡ Ok (whole, rest)
 unfolding blob_at
-blob_taken bytes whole rest found =
-    ap (λ (o : Option BlobFault). blob_when o bytes) (no_fault requirement_magic bytes whole rest found.0 found.1)
-    ∙ ap (λ (a : List ℕ). Ok (a, drop (number_at 4 bytes) bytes)) (whole_is requirement_magic bytes whole rest found.0 found.1)
-    ∙ ap (λ (b : List ℕ). Ok (whole, b)) (rest_is requirement_magic bytes whole rest found.0 found.1)
+blob_taken only bytes whole rest found =
+    let read = only requirement_magic bytes whole rest found.0 found.1 in
+    ap (λ (o : Option BlobFault). blob_when o bytes) read.0
+    ∙ ap (λ (a : List ℕ). Ok (a, drop (number_at 4 bytes) bytes)) read.1
+    ∙ ap (λ (b : List ℕ). Ok (whole, b)) read.2
 
--- a header without a fault
-header_is : (magic : ℕ) (bytes : List ℕ) → blob_fault magic bytes ≡ None → (number_at 0 bytes ≡ magic) × (8 ≤ number_at 4 bytes) × (number_at 4 bytes ≤ length bytes)
-header_is magic bytes h = by_tests (nat_lt (length bytes) 8) (number_at 0 bytes == magic) (nat_lt (number_at 4 bytes) 8) (nat_lt (length bytes) (number_at 4 bytes)) refl refl refl h
-  where
-    none : Option BlobFault
-    none = None
-
-    by_tests : (s k l m : Bool) → (number_at 0 bytes == magic) ≡ k → nat_lt (number_at 4 bytes) 8 ≡ l → nat_lt (length bytes) (number_at 4 bytes) ≡ m
-        → (if s then Some Short else (if k then (if l || m then Some BadLength else None) else Some BadMagic)) ≡ None
-        → (number_at 0 bytes ≡ magic) × (8 ≤ number_at 4 bytes) × (number_at 4 bytes ≤ length bytes)
-    by_tests true k l m e f g h = absurd cc
-    by_tests false false l m e f g h = absurd cc
-    by_tests false true true m e f g h = absurd cc
-    by_tests false true false true e f g h = absurd cc
-    by_tests false true false false e f g h = (grind (arith, nat_tests, e), grind (arith, nat_tests, f), grind (arith, nat_tests, g))
-
-blob_found : (o : Option BlobFault) (bytes : List ℕ) (y : List ℕ × List ℕ) → blob_fault requirement_magic bytes ≡ o → blob_when o bytes ≡ Ok y → IsBlob requirement_magic y.0 × (bytes ≡ y.0 ++ y.1)
-blob_found None bytes y e h =
-    let facts = header_is requirement_magic bytes e in
-    let read = blob_read requirement_magic (number_at 4 bytes) bytes (take (number_at 4 bytes) bytes) (drop (number_at 4 bytes) bytes) facts.1 facts.2 facts.0 refl refl refl in
-    subst (λ (z : List ℕ × List ℕ). IsBlob requirement_magic z.0 × (bytes ≡ z.0 ++ z.1)) (ok_is (take (number_at 4 bytes) bytes, drop (number_at 4 bytes) bytes) y h) read
-blob_found (Some why) bytes y e h = absurd cc
+blob_found : BlobIsFound → (o : Option BlobFault) (bytes : List ℕ) (y : List ℕ × List ℕ) → blob_fault requirement_magic bytes ≡ o → blob_when o bytes ≡ Ok y → IsBlob requirement_magic y.0 × (bytes ≡ y.0 ++ y.1)
+blob_found at_front None bytes y e h =
+    let parts : bytes ≡ take (number_at 4 bytes) bytes ++ drop (number_at 4 bytes) bytes = sym (take-append-drop (number_at 4 bytes) bytes) in
+    subst (λ (z : List ℕ × List ℕ). IsBlob requirement_magic z.0 × (bytes ≡ z.0 ++ z.1)) (ok_is (take (number_at 4 bytes) bytes, drop (number_at 4 bytes) bytes) y h) (at_front requirement_magic bytes e, parts)
+blob_found at_front (Some why) bytes y e h = absurd cc
 
 IsBytes-front : (front rest : List ℕ) → IsBytes (front ++ rest) → IsBytes front
 IsBytes-front front rest are = subst IsBytes (take_at front rest (length front) refl) (IsBytes-take (length front) (front ++ rest) are)
@@ -149,9 +138,9 @@ record BodyTaken (body : List ℕ) (x : Tree × List ℕ) : Type 0 where
   spells : Spells x.0 text
   shallow : IsShallow x.0
 
-body_taken : (size : ℕ) (body : List ℕ) (x : Tree × List ℕ) → IsBytes body → body_at size body ≡ Ok x → BodyTaken body x
+body_taken : OidIsRead → (size : ℕ) (body : List ℕ) (x : Tree × List ℕ) → IsBytes body → body_at size body ≡ Ok x → BodyTaken body x
 unfolding body_at
-body_taken size body x are e =
+body_taken is_read size body x are e =
     let k = bind_ok (word_at size body) (λ kind. cond (eqb kind.0 1) (req_at size MOST_DEPTH kind.1) (Err fault.BadKind)) x e in
     let w = word_takes size body k.0 are k.1 in
     by_kind k.0.0 k.0.1 (eqb k.0.0 1) refl w.0 k.2
@@ -160,7 +149,7 @@ body_taken size body x are e =
     by_kind n rest false t w h = absurd cc
     by_kind n rest true t w h =
         let is : n ≡ 1 = eqb-true _ _ t in
-        let s = req_taken size MOST_DEPTH rest x w.rest_fits h in
+        let s = req_taken is_read size MOST_DEPTH rest x w.rest_fits h in
         record { text = s.text; parts = w.parts ∙ ap (λ (m : ℕ). word m ++ rest) is ∙ ap (λ (r : List ℕ). word 1 ++ r) s.taken.parts; spells = s.spells; shallow = s.shallow }
 
 ended_with : (size : ℕ) (x : Tree × List ℕ) (rest : List ℕ) (tree : Tree) → ended size x rest ≡ Ok tree → (x.1 ≡ []) × (rest ≡ []) × (x.0 ≡ tree)
@@ -173,11 +162,12 @@ ended_with size x rest tree h = by_tests (eqb (length x.1) 0) (eqb (length rest)
     by_tests true false e f h = absurd cc
     by_tests true true e f h = (nil_from_length x.1 (eqb-true _ _ e), nil_from_length rest (eqb-true _ _ f), ok_is x.0 tree h)
 
-pub decoded_spells : (bytes : List ℕ) (tree : Tree) → IsBytes bytes → decoded bytes ≡ Ok tree → IsSpelling tree bytes
+-- what is read is spelled so
+pub decoded_spells : OidIsRead → BlobIsFound → (bytes : List ℕ) (tree : Tree) → IsBytes bytes → decoded bytes ≡ Ok tree → IsSpelling tree bytes
 unfolding decoded blob_at whole_of
-decoded_spells bytes tree are e =
+decoded_spells is_read at_front bytes tree are e =
     let b = bind_ok (blob_when (blob_fault requirement_magic bytes) bytes) (λ blob. whole_of blob.0 blob.1) tree e in
-    let found = blob_found (blob_fault requirement_magic bytes) bytes b.0 refl b.1 in
+    let found = blob_found at_front (blob_fault requirement_magic bytes) bytes b.0 refl b.1 in
     by_size b.0.0 b.0.1 found.0 found.1 (ltb MOST_BYTES (length b.0.0)) refl b.2
   where
     by_size : (whole rest : List ℕ) → IsBlob requirement_magic whole → bytes ≡ whole ++ rest → (c : Bool) → ltb MOST_BYTES (length whole) ≡ c
@@ -187,7 +177,7 @@ decoded_spells bytes tree are e =
         let short : length whole ≤ MOST_BYTES = ltb-false _ _ t in
         let whole_are : IsBytes whole = IsBytes-front whole rest (subst IsBytes parts are) in
         let x = bind_ok (body_at (length whole) (drop 8 whole)) (λ y. ended (length whole) y rest) tree h in
-        let body = body_taken (length whole) (drop 8 whole) x.0 (IsBytes-drop 8 whole whole_are) x.1 in
+        let body = body_taken is_read (length whole) (drop 8 whole) x.0 (IsBytes-drop 8 whole whole_are) x.1 in
         let last = ended_with (length whole) x.0 rest tree x.2 in
         let body_is : drop 8 whole ≡ word 1 ++ body.text = body.parts ∙ ap (λ (r : List ℕ). word 1 ++ (body.text ++ r)) last.0 ∙ ap (λ (r : List ℕ). word 1 ++ r) (append-nil body.text) in
         let whole_is_all : bytes ≡ whole = parts ∙ ap (λ (r : List ℕ). whole ++ r) last.1 ∙ append-nil whole in
@@ -205,10 +195,10 @@ decoded_spells bytes tree are e =
           short = subst (λ (y : List ℕ). length y ≤ MOST_BYTES) (sym whole_is_all) short;
         }
 
-body_again : (size : ℕ) (tree : Tree) (expression : List ℕ) → Spells tree expression → IsShallow tree → body_at size (word 1 ++ expression) ≡ Ok (tree, [])
+body_again : OidIsRead → (size : ℕ) (tree : Tree) (expression : List ℕ) → Spells tree expression → IsShallow tree → body_at size (word 1 ++ expression) ≡ Ok (tree, [])
 unfolding body_at
-body_again size tree expression spelled shallow =
-    let read : req_at size MOST_DEPTH expression ≡ Ok (tree, []) = ap (req_at size 256) (sym (append-nil expression)) ∙ req_again tree size MOST_DEPTH expression [] shallow spelled in
+body_again is_read size tree expression spelled shallow =
+    let read : req_at size MOST_DEPTH expression ≡ Ok (tree, []) = ap (req_at size 256) (sym (append-nil expression)) ∙ req_again is_read tree size MOST_DEPTH expression [] shallow spelled in
     ap (λ (r : Result (ℕ × List ℕ) OpsFault). r >>= λ kind. cond (eqb kind.0 1) (req_at size MOST_DEPTH kind.1) (Err fault.BadKind)) (word_again size 1 expression (omega arith)) ∙ read
 
 drop-header : (magic n : ℕ) (body : List ℕ) → drop 8 (word magic ++ (word n ++ body)) ≡ body
@@ -217,27 +207,35 @@ drop-header magic n body =
     ∙ ap (drop 4) (drop_at (word magic) (word n ++ body) 4 (length-word magic))
     ∙ drop_at (word n) body 4 (length-word n)
 
-spelling_decoded : (tree : Tree) (expression : List ℕ) → Spells tree expression → IsShallow tree → length (requirement expression) ≤ MOST_BYTES → decoded (requirement expression) ≡ Ok tree
+spelling_decoded : OidIsRead → OnlyBlob → (tree : Tree) (expression : List ℕ) → Spells tree expression → IsShallow tree → length (requirement expression) ≤ MOST_BYTES → decoded (requirement expression) ≡ Ok tree
 unfolding decoded whole_of ended
-spelling_decoded tree expression spelled shallow short =
+spelling_decoded is_read only tree expression spelled shallow short =
     let blob : IsBlob requirement_magic (requirement expression) = requirement_blob expression (omega (arith, short)) in
     let fits : ltb MOST_BYTES (length (requirement expression)) ≡ false = le-ltb _ _ short in
-    let body : body_at (length (requirement expression)) (drop 8 (requirement expression)) ≡ Ok (tree, []) = ap (body_at (length (requirement expression))) (drop-header requirement_magic (12 + length expression) (word 1 ++ expression)) ∙ body_again (length (requirement expression)) tree expression spelled shallow in
-    ap (λ (r : Result (List ℕ × List ℕ) OpsFault). r >>= λ b. whole_of b.0 b.1) (blob_taken (requirement expression) (requirement expression) [] (blob, sym (append-nil (requirement expression))))
+    let body : body_at (length (requirement expression)) (drop 8 (requirement expression)) ≡ Ok (tree, []) = ap (body_at (length (requirement expression))) (drop-header requirement_magic (12 + length expression) (word 1 ++ expression)) ∙ body_again is_read (length (requirement expression)) tree expression spelled shallow in
+    ap (λ (r : Result (List ℕ × List ℕ) OpsFault). r >>= λ b. whole_of b.0 b.1) (blob_taken only (requirement expression) (requirement expression) [] (blob, sym (append-nil (requirement expression))))
     ∙ ap (λ (c : Bool). cond c (Err fault.TooLong) (body_at (length (requirement expression)) (drop 8 (requirement expression)) >>= λ x. ended (length (requirement expression)) x [])) fits
     ∙ ap (λ (r : Result (Tree × List ℕ) OpsFault). r >>= λ x. ended (length (requirement expression)) x []) body
 
-pub spells_decoded : (bytes : List ℕ) (tree : Tree) → IsSpelling tree bytes → decoded bytes ≡ Ok tree
-spells_decoded bytes tree is = ap decoded is.blob ∙ spelling_decoded tree is.expression is.spelled is.shallow (subst (λ (y : List ℕ). length y ≤ MOST_BYTES) is.blob is.short)
+-- what is spelled so is read
+pub spells_decoded : OidIsRead → OnlyBlob → (bytes : List ℕ) (tree : Tree) → IsSpelling tree bytes → decoded bytes ≡ Ok tree
+spells_decoded is_read only bytes tree is = ap decoded is.blob ∙ spelling_decoded is_read only tree is.expression is.spelled is.shallow (subst (λ (y : List ℕ). length y ≤ MOST_BYTES) is.blob is.short)
 
 -- ---- the public call
 
-pub is_found : (bytes : List ℕ) (r : Result Req OpsFault) → IsBytes bytes → Gives tree_of r (decoded bytes) → IfOk r (λ req. IsSpelling (tree_of req) bytes)
-is_found bytes (Ok req) are given = decoded_spells bytes (tree_of req) are given
-is_found bytes (Err e) are given = tt
+-- bytes_are_read_where_they_spell, a law of this crate
+abbrev ReadsWhereSpelt : Type 0
+ReadsWhereSpelt = (bytes : List ℕ) (tree : Tree) → IsBytes bytes → (decoded bytes ≡ Ok tree → IsSpelling tree bytes) × (IsSpelling tree bytes → decoded bytes ≡ Ok tree)
 
-pub is_only : (bytes : List ℕ) (r : Result Req OpsFault) (tree : Tree) → IsSpelling tree bytes → Gives tree_of r (decoded bytes) → Gives tree_of r (Ok tree)
-is_only bytes r tree is given = subst (λ (d : Result Tree OpsFault). Gives tree_of r d) (spells_decoded bytes tree is) given
+-- what the call returns is spelled so
+pub is_found : ReadsWhereSpelt → (bytes : List ℕ) (r : Result Req OpsFault) → IsBytes bytes → Gives tree_of r (decoded bytes) → IfOk r (λ req. IsSpelling (tree_of req) bytes)
+is_found reads bytes (Ok req) are given = (reads bytes (tree_of req) are).0 given
+is_found reads bytes (Err e) are given = tt
 
-pub one_tree : (first second : Tree) (bytes : List ℕ) → IsSpelling first bytes → IsSpelling second bytes → first ≡ second
-one_tree first second bytes p q = ok_is first second (sym (spells_decoded bytes first p) ∙ spells_decoded bytes second q)
+-- what is spelled so is what the call returns
+pub is_only : ReadsWhereSpelt → (bytes : List ℕ) (r : Result Req OpsFault) (tree : Tree) → IsBytes bytes → IsSpelling tree bytes → Gives tree_of r (decoded bytes) → Gives tree_of r (Ok tree)
+is_only reads bytes r tree are is given = subst (λ (d : Result Tree OpsFault). Gives tree_of r d) ((reads bytes tree are).1 is) given
+
+-- bytes spell one tree at most
+pub one_tree : OidIsRead → OnlyBlob → (first second : Tree) (bytes : List ℕ) → IsSpelling first bytes → IsSpelling second bytes → first ≡ second
+one_tree is_read only first second bytes p q = ok_is first second (sym (spells_decoded is_read only bytes first p) ∙ spells_decoded is_read only bytes second q)

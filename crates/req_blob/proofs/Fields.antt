@@ -20,7 +20,7 @@ use Rattle.req_blob.specs.Spelling.{IsText, IsSlot, IsHash, IsFieldKey, IsOidDat
 use Rattle.req_tree.specs.Spellable.{is_reserved}
 use Rattle.req_blob.specs.Reading.{◌>>=◌, place, word_at, signed_at, padded_at, datum_at, unpadded_at, hash_at, key_at, oid_of, oid_at, comparison, comparison_at, test_at, match_at}
 use Rattle.req_tree.specs.OidReading.{is_oid}
-use Rattle.req_tree.proofs.OidTest.{is_oid-sound, is_oid-complete}
+use Rattle.req_blob.proofs.LawsBelow.{OidIsRead}
 
 pub IsBytes-drop : (n : ℕ) (bytes : List ℕ) → IsBytes bytes → IsBytes (drop n bytes)
 IsBytes-drop n bytes h i = rw get_or-drop (h (n + i))
@@ -252,21 +252,21 @@ text_bytes size bytes x are e =
         let g = guard_passed (list_all (λ y. y == 0) (take (padding count) (drop count rest))) (fault.BadPadding (place size bytes)) (take count rest, drop (padding count) (drop count rest)) x h in
         subst (λ (z : List ℕ × List ℕ). IsBytes z.0) g.1 (IsBytes-take count rest are)
 
-pub oid_takes : (size : ℕ) (bytes : List ℕ) (x : List ℕ × List ℕ) → IsBytes bytes → oid_at size bytes ≡ Ok x → Takes bytes (datum x.0) x.1 × IsOidDatum x.0
+pub oid_takes : OidIsRead → (size : ℕ) (bytes : List ℕ) (x : List ℕ × List ℕ) → IsBytes bytes → oid_at size bytes ≡ Ok x → Takes bytes (datum x.0) x.1 × IsOidDatum x.0
 unfolding oid_at oid_of
-oid_takes size bytes x are e =
+oid_takes read size bytes x are e =
     let b = bind_ok (datum_at size bytes) (λ y. oid_of (place size bytes) y.0 >>= λ oid. Ok (oid, y.1)) x e in
     let c = bind_ok (oid_of (place size bytes) b.0.0) (λ oid. Ok (oid, b.0.1)) x b.2 in
     let g = guard_passed (is_oid b.0.0) (fault.BadOid (place size bytes)) b.0.0 c.0 c.1 in
     let t = datum_takes size bytes b.0 are b.1 in
-    let is = is_oid-sound b.0.0 (text_bytes size bytes b.0 are b.1) g.0 in
+    let is = (read b.0.0).0 (text_bytes size bytes b.0 are b.1) g.0 in
     let made : b.0 ≡ x = ap (λ (o : List ℕ). (o, b.0.1)) g.1 ∙ ok_is (c.0, b.0.1) x c.2 in
     subst (λ (z : List ℕ × List ℕ). Takes bytes (datum z.0) z.1 × IsOidDatum z.0) made (t.0, (t.1, is))
 
-pub oid_again : (size : ℕ) (text rest : List ℕ) → IsOidDatum text → oid_at size (datum text ++ rest) ≡ Ok (text, rest)
+pub oid_again : OidIsRead → (size : ℕ) (text rest : List ℕ) → IsOidDatum text → oid_at size (datum text ++ rest) ≡ Ok (text, rest)
 unfolding oid_at oid_of
-oid_again size text rest is =
-    rw (datum_again size text rest is.0) (ap (λ (b : Bool). cond b (Ok text) (Err (fault.BadOid (place size (datum text ++ rest)))) >>= λ oid. Ok (oid, rest)) (is_oid-complete text is.1))
+oid_again read size text rest is =
+    rw (datum_again size text rest is.0) (ap (λ (b : Bool). cond b (Ok text) (Err (fault.BadOid (place size (datum text ++ rest)))) >>= λ oid. Ok (oid, rest)) ((read text).1 is.1))
 
 -- ---- matches
 

@@ -9,6 +9,7 @@ use Rattle.req_blob.specs.declared.fault.OpsFault.{OpsFault}
 use Rattle.req_blob.specs.declared.opcode.Leaf.{Leaf}
 use Rattle.req_blob.specs.declared.opcode.Leaf.TheVariants as l
 use Rattle.req_blob.specs.Words.{signed_word, datum, match_text}
+use Rattle.req_blob.proofs.LawsBelow.{OidIsRead}
 use Rattle.req_blob.proofs.Table.{leaf_number}
 use Rattle.req_blob.specs.Spelling.{Spells, Marked, IsText, IsSlot, IsHash, IsFieldKey, IsOidDatum, IsTest}
 use Rattle.req_blob.specs.Reading.{◌>>=◌, datum_at, signed_at, hash_at, key_at, oid_at, match_at, leaf_at}
@@ -35,8 +36,8 @@ hash_field = record { read = hash_at; text = datum; Fits = IsHash; takes = hash_
 abbrev key_field : Field (List ℕ)
 key_field = record { read = key_at; text = datum; Fits = IsFieldKey; takes = key_takes; again = key_again }
 
-abbrev oid_field : Field (List ℕ)
-oid_field = record { read = oid_at; text = datum; Fits = IsOidDatum; takes = oid_takes; again = oid_again }
+abbrev oid_field : OidIsRead → Field (List ℕ)
+oid_field read = record { read = oid_at; text = datum; Fits = IsOidDatum; takes = oid_takes read; again = oid_again read }
 
 abbrev match_field : Field Match
 match_field = record { read = match_at; text = match_text; Fits = IsTest; takes = match_takes; again = match_again }
@@ -89,28 +90,29 @@ three_taken f g h make opcode size bytes x spells leaf are e =
     subst (λ (y : Tree × List ℕ). LeafTaken opcode bytes y) (ok_is (make a.0.0 b.0.0 c.0.0, c.0.1) x c.2)
     (record { text = f.text a.0.0 ++ (g.text b.0.0 ++ h.text c.0.0); taken = all_three; spells = λ all m. spells a.0.0 b.0.0 c.0.0 all s.1 r.1 q.1 m; leaf = leaf a.0.0 b.0.0 c.0.0 })
 
-pub leaf_taken : (size : ℕ) (leaf : Leaf) (bytes : List ℕ) (x : Tree × List ℕ) → IsBytes bytes → leaf_at size leaf bytes ≡ Ok x → LeafTaken (leaf_number leaf) bytes x
-unfolding leaf_at ident_at anchor_hash_at legacy_info_at cd_hash_at info_field_at cert_field_at trusted_cert_at cert_oid_at entitlement_field_at cert_policy_at named_anchor_at named_code_at platform_at
-leaf_taken size l.Never bytes x are e = none_taken 0 t.never bytes x (λ all m. m) refl are e
-leaf_taken size l.Always bytes x are e = none_taken 1 t.always bytes x (λ all m. m) refl are e
-leaf_taken size l.Ident bytes x are e = one_taken text_field t.ident 2 size bytes x (λ a all p m. (p, m)) (λ a. refl) are e
-leaf_taken size l.AppleAnchor bytes x are e = none_taken 3 t.apple_anchor bytes x (λ all m. m) refl are e
-leaf_taken size l.AnchorHash bytes x are e = two_taken signed_field hash_field t.anchor_hash 4 size bytes x (λ a b all p q m. (p, q, m)) (λ a b. refl) are e
-leaf_taken size l.LegacyInfo bytes x are e = two_taken text_field text_field t.legacy_info 5 size bytes x (λ a b all p q m. (p, q, m)) (λ a b. refl) are e
-leaf_taken size l.CdHash bytes x are e = one_taken hash_field t.cd_hash 8 size bytes x (λ a all p m. (p, m)) (λ a. refl) are e
-leaf_taken size l.InfoField bytes x are e = two_taken text_field match_field t.info_field 10 size bytes x (λ a b all p q m. (p, q, m)) (λ a b. refl) are e
-leaf_taken size l.CertField bytes x are e = three_taken signed_field key_field match_field t.cert_field 11 size bytes x (λ a b c all p q r m. (p, q, r, m)) (λ a b c. refl) are e
-leaf_taken size l.TrustedCert bytes x are e = one_taken signed_field t.trusted_cert 12 size bytes x (λ a all p m. (p, m)) (λ a. refl) are e
-leaf_taken size l.TrustedAny bytes x are e = none_taken 13 t.trusted_any bytes x (λ all m. m) refl are e
-leaf_taken size l.CertOid bytes x are e = three_taken signed_field oid_field match_field t.cert_oid 14 size bytes x (λ a b c all p q r m. (p, q, r, m)) (λ a b c. refl) are e
-leaf_taken size l.AppleGeneric bytes x are e = none_taken 15 t.apple_generic bytes x (λ all m. m) refl are e
-leaf_taken size l.EntitlementField bytes x are e = two_taken text_field match_field t.entitlement_field 16 size bytes x (λ a b all p q m. (p, q, m)) (λ a b. refl) are e
-leaf_taken size l.CertPolicy bytes x are e = three_taken signed_field oid_field match_field t.cert_policy 17 size bytes x (λ a b c all p q r m. (p, q, r, m)) (λ a b c. refl) are e
-leaf_taken size l.NamedAnchor bytes x are e = one_taken text_field t.named_anchor 18 size bytes x (λ a all p m. (p, m)) (λ a. refl) are e
-leaf_taken size l.NamedCode bytes x are e = one_taken text_field t.named_code 19 size bytes x (λ a all p m. (p, m)) (λ a. refl) are e
-leaf_taken size l.Platform bytes x are e = one_taken signed_field t.platform 20 size bytes x (λ a all p m. (p, m)) (λ a. refl) are e
-leaf_taken size l.Notarized bytes x are e = none_taken 21 t.notarized bytes x (λ all m. m) refl are e
-leaf_taken size l.LegacyDevId bytes x are e = none_taken 23 t.legacy_dev_id bytes x (λ all m. m) refl are e
+module _ (is_read : OidIsRead) where
+  pub leaf_taken : (size : ℕ) (leaf : Leaf) (bytes : List ℕ) (x : Tree × List ℕ) → IsBytes bytes → leaf_at size leaf bytes ≡ Ok x → LeafTaken (leaf_number leaf) bytes x
+  unfolding leaf_at ident_at anchor_hash_at legacy_info_at cd_hash_at info_field_at cert_field_at trusted_cert_at cert_oid_at entitlement_field_at cert_policy_at named_anchor_at named_code_at platform_at
+  leaf_taken size l.Never bytes x are e = none_taken 0 t.never bytes x (λ all m. m) refl are e
+  leaf_taken size l.Always bytes x are e = none_taken 1 t.always bytes x (λ all m. m) refl are e
+  leaf_taken size l.Ident bytes x are e = one_taken text_field t.ident 2 size bytes x (λ a all p m. (p, m)) (λ a. refl) are e
+  leaf_taken size l.AppleAnchor bytes x are e = none_taken 3 t.apple_anchor bytes x (λ all m. m) refl are e
+  leaf_taken size l.AnchorHash bytes x are e = two_taken signed_field hash_field t.anchor_hash 4 size bytes x (λ a b all p q m. (p, q, m)) (λ a b. refl) are e
+  leaf_taken size l.LegacyInfo bytes x are e = two_taken text_field text_field t.legacy_info 5 size bytes x (λ a b all p q m. (p, q, m)) (λ a b. refl) are e
+  leaf_taken size l.CdHash bytes x are e = one_taken hash_field t.cd_hash 8 size bytes x (λ a all p m. (p, m)) (λ a. refl) are e
+  leaf_taken size l.InfoField bytes x are e = two_taken text_field match_field t.info_field 10 size bytes x (λ a b all p q m. (p, q, m)) (λ a b. refl) are e
+  leaf_taken size l.CertField bytes x are e = three_taken signed_field key_field match_field t.cert_field 11 size bytes x (λ a b c all p q r m. (p, q, r, m)) (λ a b c. refl) are e
+  leaf_taken size l.TrustedCert bytes x are e = one_taken signed_field t.trusted_cert 12 size bytes x (λ a all p m. (p, m)) (λ a. refl) are e
+  leaf_taken size l.TrustedAny bytes x are e = none_taken 13 t.trusted_any bytes x (λ all m. m) refl are e
+  leaf_taken size l.CertOid bytes x are e = three_taken signed_field (oid_field is_read) match_field t.cert_oid 14 size bytes x (λ a b c all p q r m. (p, q, r, m)) (λ a b c. refl) are e
+  leaf_taken size l.AppleGeneric bytes x are e = none_taken 15 t.apple_generic bytes x (λ all m. m) refl are e
+  leaf_taken size l.EntitlementField bytes x are e = two_taken text_field match_field t.entitlement_field 16 size bytes x (λ a b all p q m. (p, q, m)) (λ a b. refl) are e
+  leaf_taken size l.CertPolicy bytes x are e = three_taken signed_field (oid_field is_read) match_field t.cert_policy 17 size bytes x (λ a b c all p q r m. (p, q, r, m)) (λ a b c. refl) are e
+  leaf_taken size l.NamedAnchor bytes x are e = one_taken text_field t.named_anchor 18 size bytes x (λ a all p m. (p, m)) (λ a. refl) are e
+  leaf_taken size l.NamedCode bytes x are e = one_taken text_field t.named_code 19 size bytes x (λ a all p m. (p, m)) (λ a. refl) are e
+  leaf_taken size l.Platform bytes x are e = one_taken signed_field t.platform 20 size bytes x (λ a all p m. (p, m)) (λ a. refl) are e
+  leaf_taken size l.Notarized bytes x are e = none_taken 21 t.notarized bytes x (λ all m. m) refl are e
+  leaf_taken size l.LegacyDevId bytes x are e = none_taken 23 t.legacy_dev_id bytes x (λ all m. m) refl are e
 
 -- ---- what spells a tree is read
 
@@ -186,9 +188,9 @@ pub trusted_any_read : (bytes : List ℕ) → Spells t.trusted_any bytes → Lea
 unfolding leaf_at
 trusted_any_read bytes h = record { leaf = l.TrustedAny; operands = []; marked = h; read = λ size rest. refl }
 
-pub cert_oid_read : (slot : ℤ) (oid : List ℕ) (test : Match) (bytes : List ℕ) → Spells (t.cert_oid slot oid test) bytes → LeafRead (t.cert_oid slot oid test) bytes
+pub cert_oid_read : OidIsRead → (slot : ℤ) (oid : List ℕ) (test : Match) (bytes : List ℕ) → Spells (t.cert_oid slot oid test) bytes → LeafRead (t.cert_oid slot oid test) bytes
 unfolding leaf_at cert_oid_at
-cert_oid_read slot oid test bytes h = record { leaf = l.CertOid; operands = signed_word slot ++ (datum oid ++ match_text test); marked = h.3; read = λ size rest. three_again signed_field oid_field match_field t.cert_oid size slot oid test rest h.0 h.1 h.2 }
+cert_oid_read is_read slot oid test bytes h = record { leaf = l.CertOid; operands = signed_word slot ++ (datum oid ++ match_text test); marked = h.3; read = λ size rest. three_again signed_field (oid_field is_read) match_field t.cert_oid size slot oid test rest h.0 h.1 h.2 }
 
 pub apple_generic_read : (bytes : List ℕ) → Spells t.apple_generic bytes → LeafRead t.apple_generic bytes
 unfolding leaf_at
@@ -198,9 +200,9 @@ pub entitlement_field_read : (key : List ℕ) (test : Match) (bytes : List ℕ) 
 unfolding leaf_at entitlement_field_at
 entitlement_field_read key test bytes h = record { leaf = l.EntitlementField; operands = datum key ++ match_text test; marked = h.2; read = λ size rest. two_again text_field match_field t.entitlement_field size key test rest h.0 h.1 }
 
-pub cert_policy_read : (slot : ℤ) (oid : List ℕ) (test : Match) (bytes : List ℕ) → Spells (t.cert_policy slot oid test) bytes → LeafRead (t.cert_policy slot oid test) bytes
+pub cert_policy_read : OidIsRead → (slot : ℤ) (oid : List ℕ) (test : Match) (bytes : List ℕ) → Spells (t.cert_policy slot oid test) bytes → LeafRead (t.cert_policy slot oid test) bytes
 unfolding leaf_at cert_policy_at
-cert_policy_read slot oid test bytes h = record { leaf = l.CertPolicy; operands = signed_word slot ++ (datum oid ++ match_text test); marked = h.3; read = λ size rest. three_again signed_field oid_field match_field t.cert_policy size slot oid test rest h.0 h.1 h.2 }
+cert_policy_read is_read slot oid test bytes h = record { leaf = l.CertPolicy; operands = signed_word slot ++ (datum oid ++ match_text test); marked = h.3; read = λ size rest. three_again signed_field (oid_field is_read) match_field t.cert_policy size slot oid test rest h.0 h.1 h.2 }
 
 pub named_anchor_read : (name : List ℕ) (bytes : List ℕ) → Spells (t.named_anchor name) bytes → LeafRead (t.named_anchor name) bytes
 unfolding leaf_at named_anchor_at

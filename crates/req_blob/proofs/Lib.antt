@@ -1,4 +1,5 @@
 pub mod Turns
+pub mod LawsBelow
 pub mod Fields
 pub mod Table
 pub mod Leaves

@@ -13,7 +13,7 @@ use Rattle.req_blob.specs.declared.limits.TheConstants.{MOST_BYTES}
 use Rattle.req_blob.specs.Encoding.{HasFields, encoded}
 use Rattle.req_blob.specs.Reading.{Gives}
 use Rattle.req_blob.proofs.Fields.{ok_is}
-use Rattle.req_blob.proofs.Blobs.{length-requirement, one_tree}
+use Rattle.req_blob.proofs.Blobs.{length-requirement}
 use Rattle.req_blob.specs.Decoding.{decoded}
 use Rattle.req_blob.proofs.Plain.{plain_spells, spelled_can, spelled_size}
 
@@ -181,8 +181,12 @@ fault_written e tree given = by_size (ltb MOST_BYTES (length (plain_blob tree)))
     by_size false long h = inl (memory_alone e (λ other. no_fault (plain_blob tree) (h other)))
 
 -- bytes come back exactly where they are plain
-pub plain_again : (tree : Tree) (bytes again : List ℕ) → IsSpelling tree bytes → IsPlain tree again → (again ≡ bytes → (t : Tree) × IsPlain t bytes) × (((t : Tree) × IsPlain t bytes) → again ≡ bytes)
-plain_again tree bytes again spelled written = (
+-- a_blob_spells_one_tree, a law of this crate
+abbrev OneTree : Type 0
+OneTree = (first second : Tree) (bytes : List ℕ) → IsSpelling first bytes → IsSpelling second bytes → first ≡ second
+
+pub plain_again : OneTree → (tree : Tree) (bytes again : List ℕ) → IsSpelling tree bytes → IsPlain tree again → (again ≡ bytes → (t : Tree) × IsPlain t bytes) × (((t : Tree) × IsPlain t bytes) → again ≡ bytes)
+plain_again one_tree tree bytes again spelled written = (
   λ same. (tree, subst (λ (b : List ℕ). IsPlain tree b) same written),
   λ is. written.plain_is ∙ ap plain_blob (one_tree tree is.0 bytes spelled is.1.spelled) ∙ sym is.1.plain_is,
 )
@@ -191,10 +195,10 @@ pub respelled_spells : (r : Result (List ℕ) OpsFault) (tree : Tree) (bytes : L
 respelled_spells (Ok again) tree bytes spelled written = (tree, spelled, written)
 respelled_spells (Err e) tree bytes spelled written = tt
 
-pub respelled_same : (r : Result (List ℕ) OpsFault) (tree : Tree) (bytes : List ℕ) → IsSpelling tree bytes → IfOk r (λ b. IsPlain tree b)
+pub respelled_same : OneTree → (r : Result (List ℕ) OpsFault) (tree : Tree) (bytes : List ℕ) → IsSpelling tree bytes → IfOk r (λ b. IsPlain tree b)
     → IfOk r (λ again. (again ≡ bytes → (t : Tree) × IsPlain t bytes) × (((t : Tree) × IsPlain t bytes) → again ≡ bytes))
-respelled_same (Ok again) tree bytes spelled written = plain_again tree bytes again spelled written
-respelled_same (Err e) tree bytes spelled written = tt
+respelled_same one_tree (Ok again) tree bytes spelled written = plain_again one_tree tree bytes again spelled written
+respelled_same one_tree (Err e) tree bytes spelled written = tt
 
 -- nothing that is read is too long to be written
 pub respelled_fault : (r : Result (List ℕ) OpsFault) (tree : Tree) (bytes : List ℕ) → IsSpelling tree bytes → Gives (λ b. b) r (encoded tree) → IfErr r (λ e. e ≢ fault.OutOfMemory → decoded bytes ≡ Err e)

@@ -1,6 +1,5 @@
 -- The opcodes of the requirement language (ExprOp of Apple's requirement.h) by their numbers.
 use Rattle.std.specs.Prelude.{ℕ, ◌==◌, ◌%◌, ◌^◌, nat_lt, if◌then◌else◌}
-use Rattle.req_blob.specs.declared.opcode.Leaf.{Leaf}
 use Rattle.req_blob.specs.declared.opcode.Leaf.TheVariants as l
 use Rattle.req_blob.specs.declared.opcode.Opcode.{Opcode}
 use Rattle.req_blob.specs.declared.opcode.Opcode.TheVariants as o

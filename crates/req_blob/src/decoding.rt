@@ -9,9 +9,11 @@ ghost use Rattle.req_blob.specs.Decoding as spec;
 
 use crate::fault::OpsFault;
 use crate::field::{place, word_at};
+use crate::laws::bytes_are_read_where_they_spell;
 use crate::limits::MOST_BYTES;
 use crate::tree::req_at;
 use cs_blob::Blob;
+use cs_blob::laws::a_blob_is_read_where_it_is;
 use req_tree::{MOST_DEPTH, Req};
 use std::alloc::Global;
 
@@ -30,6 +32,7 @@ pub fn decode(alloc: Global, bytes: &[u8]) -> Result<Req, OpsFault>
     // Which fault it is, and where.
     ensures exact { Gives tree_of result (spec.decoded bytes.now) }
 {
+    bytes_are_read_where_they_spell();
     decode_first(alloc, bytes)
 }
 
@@ -46,6 +49,7 @@ fn blob_at(bytes: &[u8]) -> Result<(&[u8], &[u8]), OpsFault>
     ensures reads { Gives (λ x. (x.0.now, x.1.now)) result (spec.blob_at bytes.now) }
     ensures long { IfOk result (λ x. 8 ≤ length x.0.now) }
 {
+    a_blob_is_read_where_it_is();
     match Blob::read(bytes, MAGIC) {
         Ok(blob) => Ok((blob.whole(), blob.rest())),
         Err(fault) => Err(OpsFault::Blob(fault)),

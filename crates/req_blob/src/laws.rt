@@ -12,15 +12,23 @@ ghost use Rattle.req_blob.specs.declared.limits.TheConstants.{MOST_BYTES};
 ghost use Rattle.req_blob.specs.Encoding.{encoded};
 ghost use Rattle.req_blob.specs.Spelling.{Spells, IsSpelling, IsPlain, plain, plain_blob, requirement, requirement_magic};
 
+use cs_blob::laws::a_blob_is_read_where_it_is;
+use req_tree::laws::an_oid_is_read_where_it_is;
+
 /// Bytes have one expression at their front at most, and it is that of one tree.
 pub fn a_front_spells_one_tree()
     ensures { (first second : Tree) (a b x y : List ℕ) → Spells first a → Spells second b → a ++ x ≡ b ++ y → (first ≡ second) × (a ≡ b) }
-{}
+{
+    an_oid_is_read_where_it_is();
+}
 
 /// A blob is that of one tree.
 pub fn a_blob_spells_one_tree()
     ensures { (first second : Tree) (bytes : List ℕ) → IsSpelling first bytes → IsSpelling second bytes → first ≡ second }
-{}
+{
+    an_oid_is_read_where_it_is();
+    a_blob_is_read_where_it_is();
+}
 
 /// A tree has one plain spelling at most.
 pub fn a_tree_has_one_plain_spelling()
@@ -50,4 +58,7 @@ pub fn what_is_refused_is_too_long()
 /// Bytes are read as a tree exactly where they spell it.
 pub fn bytes_are_read_where_they_spell()
     ensures { (bytes : List ℕ) (tree : Tree) → IsBytes bytes → (decoded bytes ≡ Ok tree) ↔ IsSpelling tree bytes }
-{}
+{
+    an_oid_is_read_where_it_is();
+    a_blob_is_read_where_it_is();
+}

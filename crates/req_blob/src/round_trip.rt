@@ -10,6 +10,7 @@ ghost use Rattle.req_blob.specs.declared.limits.TheConstants.{MOST_BYTES};
 use crate::decoding::decode;
 use crate::encoding::encode;
 use crate::fault::OpsFault;
+use crate::laws::a_blob_spells_one_tree;
 use req_tree::{Bytes, Req};
 use std::alloc::Global;
 
@@ -32,6 +33,7 @@ pub fn respell(alloc: Global, bytes: &[u8]) -> Result<Bytes, OpsFault>
     // What is read isn't too long to be written.
     ensures fault { IfErr result (λ fault. fault ≢ OpsFault.OutOfMemory → decoded bytes.now ≡ Err fault) }
 {
+    a_blob_spells_one_tree();
     match decode(alloc, bytes) {
         Ok(req) => {
             let again = encode(alloc, &req);

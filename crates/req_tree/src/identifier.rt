@@ -3,15 +3,17 @@
 ghost use Rattle.std.specs.Prelude.{◌<◌, ◌≤◌, ◌↔◌, All, IsTrue};
 ghost use Rattle.std.proofs.Props.{props};
 ghost use Rattle.arrayvec.specs.ArrayVec.{array_vec_len};
+ghost use Rattle.req_tree.specs.declared.limits.TheConstants.{MOST_IDENTIFIER_BYTES};
 
+use crate::limits::MOST_IDENTIFIER_BYTES;
 use arrayvec::ArrayVec;
 
 /// The identifier that code was signed with.
 #[derive(Debug, Drop, PartialEq, Eq, Hash)]
 pub struct Identifier {
-    bytes: ArrayVec<u8, 256>,
+    bytes: ArrayVec<u8, MOST_IDENTIFIER_BYTES>,
     pub ghost some: { 1 ≤ array_vec_len bytes },
-    pub ghost short: { array_vec_len bytes ≤ 256 },
+    pub ghost short: { array_vec_len bytes ≤ MOST_IDENTIFIER_BYTES },
     pub ghost no_zero: { All (λ b. 0 < b) bytes.items } by { Prim.hlevel props },
 }
 
@@ -24,7 +26,7 @@ impl Identifier {
         ensures fits { IsSome result ↔ IsIdentifier bytes.now }
         ensures bytes { IfSome result (λ identifier. identifier_bytes identifier ≡ bytes.now) }
     {
-        let sized = !bytes.is_empty() && bytes.len() <= 256;
+        let sized = !bytes.is_empty() && bytes.len() <= MOST_IDENTIFIER_BYTES;
         let no_zero = has_no_zero(bytes);
         if sized && no_zero {
             Some(Identifier::held(bytes))

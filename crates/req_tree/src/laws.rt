@@ -1,6 +1,6 @@
 //! Laws over the definitions alone.
 
-ghost use Rattle.std.specs.Prelude.{◌≡◌, ◌↔◌, ℕ, List, true};
+ghost use Rattle.std.specs.Prelude.{◌≡◌, ℕ, List, true};
 ghost use Rattle.req_tree.specs.Tree.{Tree};
 ghost use Rattle.req_tree.specs.Subject.{Subject};
 ghost use Rattle.req_tree.specs.Facts.{Facts};
@@ -44,5 +44,5 @@ pub fn an_oid_has_one_text()
 
 /// Bytes are read as an object identifier exactly where they are those of one.
 pub fn an_oid_is_read_where_it_is()
-    ensures { (bytes : List ℕ) → IsBytes bytes → (is_oid bytes ≡ true) ↔ IsOidBytes bytes }
+    ensures { (bytes : List ℕ) → (IsBytes bytes → is_oid bytes ≡ true → IsOidBytes bytes) × (IsOidBytes bytes → is_oid bytes ≡ true) }
 {}

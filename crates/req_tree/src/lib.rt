@@ -22,7 +22,7 @@ mod subject;
 pub use fault::{OidBytesFault, OidFault};
 pub use hash::{Hash20, read_hash};
 pub use identifier::Identifier;
-pub use limits::MOST_DEPTH;
+pub use limits::{MOST_DEPTH, MOST_IDENTIFIER_BYTES};
 pub use line_text::{Bytes, LineText};
 pub use matching::Match;
 pub use oid::Oid;

@@ -3,6 +3,7 @@ use Rattle.std.specs.Prelude.{ℕ, ◌*◌, ℤ, pos, neg_ℤ, List, [], ◌∷�
 use Rattle.std.specs.List.{slice_split, join_with_byte, list_all}
 use Rattle.std.specs.Char.{is_ascii_digit}
 use Rattle.req_tree.specs.NumericOrder.{number_of}
+use Rattle.req_tree.specs.declared.limits.TheConstants.{MOST_IDENTIFIER_BYTES}
 use Rattle.line_text.specs.WordText.{is_plain}
 use Rattle.policy_model.specs.declared.limits.TheConstants.{GREATEST_MOMENT, UNIT}
 use Rattle.session_model.specs.declared.limits.TheConstants.{MOMENT_DIGITS, PRIORITY_DIGITS, GREATEST_UNITS, PLATFORM_DIGITS, GREATEST_PLATFORM}
@@ -63,7 +64,7 @@ key_word word = if is_key word then Some word else None
 -- an identifier that stands for itself
 abbrev pub identifier_word : List ℕ → Option (List ℕ)
 identifier_word word =
-    if nat_le 1 (length word) && nat_le (length word) 256 && list_all is_plain word && not (bytes_eq word (codes "-")) then Some word else None
+    if nat_le 1 (length word) && nat_le (length word) MOST_IDENTIFIER_BYTES && list_all is_plain word && not (bytes_eq word (codes "-")) then Some word else None
 
 -- a number up to 255, of 1 to 3 digits
 abbrev pub platform_word : List ℕ → Option ℕ

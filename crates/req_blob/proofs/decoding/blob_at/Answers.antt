@@ -9,7 +9,7 @@ pub returns-in-Ok-clause-long : goal.returns-in-Ok-clause-long
 returns-in-Ok-clause-long c = rw c.whole.ensures c.in-Ok.ensures.found.0.header
 
 pub returns-in-Ok-clause-reads : goal.returns-in-Ok-clause-reads
-returns-in-Ok-clause-reads c = rw (c.whole.ensures, c.rest.ensures) (blob_taken _ _ _ c.in-Ok.ensures.found)
+returns-in-Ok-clause-reads c = rw (c.whole.ensures, c.rest.ensures) (blob_taken c.a_blob_is_read_where_it_is.ensures.only _ _ _ c.in-Ok.ensures.found)
 
 pub returns-in-Err-clause-reads : goal.returns-in-Err-clause-reads
 unfolding blob_at

@@ -8,7 +8,7 @@ pub returns-in-Ok-clause-spells : goal.returns-in-Ok-clause-spells
 returns-in-Ok-clause-spells c = respelled_spells _ _ _ c.in-Ok.ensures.found c.encode-again.ensures.plain
 
 pub returns-in-Ok-clause-same : goal.returns-in-Ok-clause-same
-returns-in-Ok-clause-same c = respelled_same _ _ _ c.in-Ok.ensures.found c.encode-again.ensures.plain
+returns-in-Ok-clause-same c = respelled_same c.a_blob_spells_one_tree.ensures _ _ _ c.in-Ok.ensures.found c.encode-again.ensures.plain
 
 pub returns-in-Ok-clause-fault : goal.returns-in-Ok-clause-fault
 returns-in-Ok-clause-fault c = respelled_fault _ _ _ c.in-Ok.ensures.found c.encode-again.ensures.exact
