@@ -6,6 +6,6 @@ mod adapter_tests;
 #[cfg(test)]
 mod device_tests;
 #[cfg(test)]
-mod named_calls;
+mod devices;
 #[cfg(test)]
 mod session_tests;

@@ -2,12 +2,11 @@
 
 ghost use Rattle.std.specs.Prelude.{ℕ, List, None};
 
-use crate::named_calls::numbers;
-use gk_io::{CallNumbers, Failed, MemorySink, MemorySource, Sink, Source};
+use crate::devices::{sink_of, source_of};
+use gk_io::{Failed, MemorySink, MemorySource, Sink, Source};
 use line_session::{Ended, Responder, run_session};
 use line_text::LineText;
 use std::alloc::{AllocError, Global};
-use std::test::Fail;
 
 // Answers each line by its first 1,000 bytes, and counts what it answered.
 #[derive(Drop)]
@@ -93,7 +92,22 @@ impl Sink for Count {
     }
 }
 
-// The call that fails, and the replies of an echo to `a LF b LF c` before it, a byte a call.
+// How a session of an echo ends, and how many lines it answers.
+fn is_answered<S: Source, W: Sink>(
+    alloc: Global,
+    input: &mut S,
+    output: &mut W,
+    ended: Ended,
+    answers: u64,
+) -> bool {
+    let mut echo = Echo { answers: 0 };
+    run_session(alloc, &mut echo, input, output) == ended && echo.answers == answers
+}
+
+// The bytes of three lines, of which the last has no LF.
+const THREE: &[u8] = b"a\nb\nc";
+
+// The call that fails, and the replies of an echo to the three lines before it, a byte a call.
 const READ_FAILS: [(u64, &[u8], u64); 6] = [
     (1, b"", 0),
     (2, b"", 0),
@@ -103,37 +117,48 @@ const READ_FAILS: [(u64, &[u8], u64); 6] = [
     (6, b"a\nb\n", 2),
 ];
 
-fn is_read_fault(
+// How a session of an echo ends, what it writes and flushes, and how many lines it answers.
+fn is_written<S: Source>(
     alloc: Global,
-    call: u64,
+    input: &mut S,
+    ended: Ended,
     written: &[u8],
     answers: u64,
 ) -> Result<bool, AllocError> {
-    let bytes = b"a\nb\nc".to_vec(alloc)?;
-    let mut output = MemorySink::with_room(alloc, 100, CallNumbers::new(alloc))?;
-    let inner = MemorySource::new(bytes, numbers(alloc, &[call])?);
-    let mut input = Trickle { inner };
-    let mut echo = Echo { answers: 0 };
-    let ended = run_session(alloc, &mut echo, &mut input, &mut output);
-    drop(input);
-    let is = ended == Ended::ReadFault && output.written() == written && echo.answers == answers;
-    drop(output);
-    Ok(is)
+    let mut output = sink_of(alloc, 100, 0, 0)?;
+    Ok(
+        is_answered(alloc, input, &mut output, ended, answers)
+            && output.written() == written
+            && output.flushed() == written,
+    )
 }
 
-fn all_read_faults(alloc: Global) -> Result<bool, AllocError> {
+fn is_written_in_pieces(
+    alloc: Global,
+    bytes: &[u8],
+    call: u64,
+    ended: Ended,
+    written: &[u8],
+    answers: u64,
+) -> Result<bool, AllocError> {
+    let inner = source_of(alloc, bytes, call)?;
+    is_written(alloc, &mut Trickle { inner }, ended, written, answers)
+}
+
+fn all_read_faults(alloc: Global) -> bool {
     for (call, written, answers) in READ_FAILS {
-        if !is_read_fault(alloc, call, written, answers)? {
-            return Ok(false);
+        if is_written_in_pieces(alloc, THREE, call, Ended::ReadFault, written, answers)
+            != Ok(true)
+        {
+            return false;
         }
     }
-    Ok(true)
+    true
 }
 
 #[test]
-fn each_read_fails_in_turn(rt: HostRuntime) -> Result<(), Fail> {
-    assert!(rt; all_read_faults(rt.alloc())?);
-    Ok(())
+fn each_read_fails_in_turn(rt: HostRuntime) {
+    assert!(rt; all_read_faults(rt.alloc()));
 }
 
 // The call that fails, as the next one would, what is written before it, and how many lines were answered.
@@ -152,85 +177,67 @@ fn is_write_fault(
     written: &[u8],
     answers: u64,
 ) -> Result<bool, AllocError> {
-    let bytes = b"a\nb\nc".to_vec(alloc)?;
-    let calls = numbers(alloc, &[call, call.saturating_add(1)])?;
-    let mut output = MemorySink::with_room(alloc, 100, calls)?;
-    let mut input = MemorySource::new(bytes, CallNumbers::new(alloc));
-    let mut echo = Echo { answers: 0 };
-    let ended = run_session(alloc, &mut echo, &mut input, &mut output);
-    drop(input);
-    let is = ended == Ended::WriteFault
-        && output.written() == written
-        && output.faults() == 1
-        && echo.answers == answers;
-    drop(output);
-    Ok(is)
+    let mut output = sink_of(alloc, 100, call, call.saturating_add(1))?;
+    Ok(
+        is_cut_off(alloc, &mut output, answers)?
+            && output.written() == written
+            && output.faults() == 1,
+    )
 }
 
-fn all_write_faults(alloc: Global) -> Result<bool, AllocError> {
+fn is_cut_off(alloc: Global, output: &mut MemorySink, answers: u64) -> Result<bool, AllocError> {
+    let mut input = source_of(alloc, THREE, 0)?;
+    Ok(is_answered(alloc, &mut input, output, Ended::WriteFault, answers))
+}
+
+fn all_write_faults(alloc: Global) -> bool {
     for (call, written, answers) in WRITE_FAILS {
-        if !is_write_fault(alloc, call, written, answers)? {
-            return Ok(false);
+        if is_write_fault(alloc, call, written, answers) != Ok(true) {
+            return false;
         }
     }
-    Ok(true)
+    true
 }
 
 #[test]
-fn each_write_fails_in_turn_and_the_sink_is_called_no_more(rt: HostRuntime) -> Result<(), Fail> {
-    assert!(rt; all_write_faults(rt.alloc())?);
-    Ok(())
+fn each_write_fails_in_turn_and_the_sink_is_called_no_more(rt: HostRuntime) {
+    assert!(rt; all_write_faults(rt.alloc()));
 }
 
-// Inputs that are read to their end, and the replies of an echo.
-const FINE: [(&[u8], &[u8]); 6] = [
-    (b"", b""),
-    (b"\n", b"\n"),
-    (b"a\nb\nc", b"a\nb\nc\n"),
-    (b"a\r\n\0\n", b"a\r\n\0\n"),
-    (b"\n\n\0", b"\n\n\0\n"),
-    (b"a\nb\n", b"a\nb\n"),
+// Inputs that are read to their end, the replies of an echo, and how many lines there are.
+const FINE: [(&[u8], &[u8], u64); 6] = [
+    (b"", b"", 0),
+    (b"\n", b"\n", 1),
+    (b"a\nb\nc", b"a\nb\nc\n", 3),
+    (b"a\r\n\0\n", b"a\r\n\0\n", 2),
+    (b"\n\n\0", b"\n\n\0\n", 3),
+    (b"a\nb\n", b"a\nb\n", 2),
 ];
 
-fn is_echoed<S: Source>(alloc: Global, input: &mut S, written: &[u8]) -> Result<bool, AllocError> {
-    let mut output = MemorySink::with_room(alloc, 100, CallNumbers::new(alloc))?;
-    let mut echo = Echo { answers: 0 };
-    let ended = run_session(alloc, &mut echo, input, &mut output);
-    let is = ended == Ended::Fine && output.written() == written && output.flushed() == written;
-    drop(output);
-    Ok(is)
+fn is_written_whole(
+    alloc: Global,
+    bytes: &[u8],
+    written: &[u8],
+    answers: u64,
+) -> Result<bool, AllocError> {
+    let mut input = source_of(alloc, bytes, 0)?;
+    is_written(alloc, &mut input, Ended::Fine, written, answers)
 }
 
-fn is_echoed_whole(alloc: Global, bytes: &[u8], written: &[u8]) -> Result<bool, AllocError> {
-    let mut input = MemorySource::new(bytes.to_vec(alloc)?, CallNumbers::new(alloc));
-    let is = is_echoed(alloc, &mut input, written);
-    drop(input);
-    is
-}
-
-fn is_echoed_in_pieces(alloc: Global, bytes: &[u8], written: &[u8]) -> Result<bool, AllocError> {
-    let inner = MemorySource::new(bytes.to_vec(alloc)?, CallNumbers::new(alloc));
-    let mut input = Trickle { inner };
-    let is = is_echoed(alloc, &mut input, written);
-    drop(input);
-    is
-}
-
-fn all_are_echoed(alloc: Global) -> Result<bool, AllocError> {
-    for (bytes, written) in FINE {
-        if !is_echoed_whole(alloc, bytes, written)?
-            || !is_echoed_in_pieces(alloc, bytes, written)?
+fn all_are_echoed(alloc: Global) -> bool {
+    for (bytes, written, answers) in FINE {
+        if is_written_whole(alloc, bytes, written, answers) != Ok(true)
+            || is_written_in_pieces(alloc, bytes, 0, Ended::Fine, written, answers) != Ok(true)
         {
-            return Ok(false);
+            return false;
         }
     }
-    Ok(true)
+    true
 }
 
 #[test]
-fn each_line_has_its_reply_whatever_the_pieces(rt: HostRuntime) -> Result<(), Fail> {
-    assert!(rt; all_are_echoed(rt.alloc())?);
-    Ok(())
+fn each_line_has_its_reply_whatever_the_pieces(rt: HostRuntime) {
+    assert!(rt; all_are_echoed(rt.alloc()));
 }
 
 // A byte, how often it comes, and how many lines are answered.
@@ -242,12 +249,9 @@ const LIMITS: [(u8, usize, Ended, u64); 4] = [
 ];
 
 fn is_limited(alloc: Global, byte: u8, left: usize, ended: Ended, answers: u64) -> bool {
-    let mut echo = Echo { answers: 0 };
     let mut input = Same { byte, left };
     let mut output = Count { puts: 0 };
-    run_session(alloc, &mut echo, &mut input, &mut output) == ended
-        && echo.answers == answers
-        && output.puts == answers
+    is_answered(alloc, &mut input, &mut output, ended, answers) && output.puts == answers
 }
 
 fn all_are_limited(alloc: Global) -> bool {
