@@ -69,10 +69,11 @@ impl Shelf for MemoryShelf {
         ensures cause { result ≡ Err ShelfFault.Failed → Rose (shelf_faults self.old) (shelf_faults self.new) }
         ensures steady { result ≢ Err ShelfFault.Failed → shelf_faults self.new ≡ shelf_faults self.old }
 
-        // The calls that fail are those that were named.
+        // The calls that fail are those that were named, and each is counted.
         ensures fails { (result ≡ Err ShelfFault.Failed) ↔ Contains (shelf_failing self.old) (counted (shelf_calls self.old)) }
         ensures failing { shelf_failing self.new ≡ shelf_failing self.old }
         ensures calls { shelf_calls self.new ≡ counted (shelf_calls self.old) }
+        ensures faults { result ≡ Err ShelfFault.Failed → shelf_faults self.new ≡ counted (shelf_faults self.old) }
     {
         self.calls = self.calls.saturating_add(1);
         if self.failing.contains(self.calls) {
