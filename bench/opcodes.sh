@@ -10,15 +10,15 @@ names="mixture-50 mixture-500 mixture-4k mixture-64k cdhashes-500 cdhashes-4k cd
 work=$(mktemp -d)
 trap 'rm -rf "$work"' EXIT
 
-(cd crates/bench_opcodes && rt run -- 1 >"$work/log" 2>&1) || { cat "$work/log"; exit 1; }
-proved=$PWD/crates/bench_opcodes/out/bench_opcodes
+(cd crates/bench && rt run -- blobs 1 >"$work/log" 2>&1) || { cat "$work/log"; exit 1; }
+proved=$PWD/crates/bench/out/bench
 rustc -O --edition 2024 -o "$work/plain" bench/plain_opcodes.rs || exit 1
 mkdir "$work/inputs" && cd "$work/inputs" && ../plain inputs . || exit 1
 
 # Word for word: who, then name, bytes, how often, nanoseconds of reading and of writing.
 for _ in $(seq "$runs"); do
   ../plain "$megabytes" $names | sed 's/^/plain /'
-  "$proved" "$megabytes" time $names | sed 's/^/proved /'
+  "$proved" opcodes "$megabytes" time $names | sed 's/^/proved /'
 done >../times || exit 1
 
 echo "best of $runs, load $(cut -d' ' -f1 /proc/loadavg)"

@@ -49,9 +49,9 @@ impl ShortReq {
 
 ghost use Rattle.std.specs.Prelude.{bytes_eq};
 
-/// Whether two digests are one. Most differ in their first byte, which is looked at in place.
+/// Whether two digests are one. Most differ in their first byte or in their last, which are looked at in place.
 fn is_hash(one: &Hash20, other: &Hash20) -> bool
     ensures { result ≡ bytes_eq one.now.bytes other.now.bytes }
 {
-    one.bytes[0] == other.bytes[0] && one == other
+    one.bytes[0] == other.bytes[0] && one.bytes[19] == other.bytes[19] && one == other
 }

@@ -1,35 +1,34 @@
 //! The shape of a requirement: how deep it nests, and whether a text can say it.
 
-ghost use Rattle.std.specs.Prelude.{◌≡◌, ◌↔◌, IsTrue};
+ghost use Rattle.std.specs.Prelude.{◌≡◌, ◌↔◌, ◌-◌, ◌^◌, min, IsTrue};
 ghost use Rattle.req_tree.specs.Tree.{tree_of};
 ghost use Rattle.req_tree.specs.Depth.{depth_of};
-ghost use Rattle.req_tree.specs.Spellable.{IsShallow};
 ghost use Rattle.req_tree.specs.Normal.{IsSpoken};
 ghost use Rattle.req_tree.specs.Normal as spec;
 
 use crate::req::Req;
 
-/// A requirement without subtrees has depth 1.
+/// A requirement without subtrees has depth 1; one deeper than `usize` counts has its greatest value.
+/// The call goes as deep as the tree. What this library reads is at most `MOST_DEPTH` deep.
 pub fn depth(req: &Req) -> usize
-    requires { IsShallow (tree_of req.now) }
-    ensures { result ≡ depth_of (tree_of req.now) }
+    ensures { result ≡ min (depth_of (tree_of req.now)) (2 ^ 64 - 1) }
 {
     match req {
-        Req::Both { left, right } => depth(left).max(depth(right)) + 1,
-        Req::Either { left, right } => depth(left).max(depth(right)) + 1,
-        Req::Negate { inner } => depth(inner) + 1,
+        Req::Both { left, right } => depth(left).max(depth(right)).saturating_add(1),
+        Req::Either { left, right } => depth(left).max(depth(right)).saturating_add(1),
+        Req::Negate { inner } => depth(inner).saturating_add(1),
         Req::SkipNext {
             op: _,
             skipped: _,
             inner,
-        } => depth(inner) + 1,
+        } => depth(inner).saturating_add(1),
         _ => 1,
     }
 }
 
 /// Whether chains nest to the left alone, and no `LegacyInfo` and nothing skipped stands in the tree.
+/// The call goes as deep as the tree.
 pub fn is_spoken(req: &Req) -> bool
-    requires { IsShallow (tree_of req.now) }
     ensures { IsTrue result ↔ IsSpoken (tree_of req.now) }
 {
     match req {

@@ -1,46 +1,26 @@
 //! Counts under the turn lock and under a mutex of std, in one, two and four threads.
-#![tactic(auto)]
 
-mod lock;
-mod mutex;
-
+use crate::plan::{Plan, rate, read_plan};
+use crate::{lock, mutex};
 use std::alloc::Global;
 use std::env::Env;
+use std::io;
 use std::sync::Wait;
 use std::thread::Threads;
 use std::time::{Clock, Instant};
-use std::{env, io};
 
 const THREADS: [u64; 3] = [1, 2, 4];
 
-/// How many turns each thread takes, and whether the turns per second are to be printed.
-#[derive(Clone, Copy)]
-struct Plan {
-    times: u64,
-    timed: bool,
-}
-
 /// The words are the turns that each thread takes, and `time` if the turns per second are to be printed too.
-fn main(rt: HostRuntime) -> io::Result<()> {
-    let plan = read_plan(&rt)?;
+pub fn measure<R: Threads + Wait + Sync + Clock + Print + Env + Alloc>(
+    rt: &R,
+    alloc: Global,
+) -> io::Result<()> {
+    let plan = read_plan(rt, 1000)?;
     for threads in THREADS {
-        count_with(&rt, rt.alloc(), threads, plan)?;
+        count_with(rt, alloc, threads, plan)?;
     }
     Ok(())
-}
-
-fn read_plan<R: Env + Alloc>(rt: &R) -> io::Result<Plan> {
-    let mut plan = Plan {
-        times: 1000,
-        timed: false,
-    };
-    for word in env::args(rt)?.skip(1) {
-        match word.as_str().parse::<u64>() {
-            Ok(number) => plan.times = number,
-            Err(_) => plan.timed = word.as_str() == "time",
-        }
-    }
-    Ok(plan)
 }
 
 fn count_with<R: Threads + Wait + Sync + Clock + Print>(
@@ -67,8 +47,4 @@ fn count_with<R: Threads + Wait + Sync + Clock + Print>(
         )?;
     }
     Ok(())
-}
-
-fn rate(turns: u64, nanos: u128) -> u128 {
-    turns as u128 * 1_000_000_000 / nanos.max(1)
 }

@@ -1,0 +1,30 @@
+//! Measures a part of the desk; the first word says which.
+#![tactic(auto)]
+
+mod blobs;
+mod lock;
+mod mutex;
+mod oids;
+mod opcodes;
+mod plan;
+mod requirements;
+mod super_blobs;
+mod turns;
+
+use std::{env, io};
+
+/// The words are `blobs`, `opcodes` or `turns`, and what these take; or `each`, and the files that `opcodes` reads.
+fn main(rt: HostRuntime) -> io::Result<()> {
+    let part = env::args(&rt)?.nth(1);
+    match part.as_ref().map(|word| word.as_str()) {
+        Some("blobs") => blobs::measure(&rt),
+        Some("opcodes") => opcodes::measure(&rt),
+        Some("turns") => turns::measure(&rt, rt.alloc()),
+        Some("each") => {
+            blobs::measure(&rt)?;
+            opcodes::measure(&rt)?;
+            turns::measure(&rt, rt.alloc())
+        }
+        _ => println!(rt; "usage: bench blobs|opcodes|turns|each [TIMES] [time] [FILE ..]"),
+    }
+}
