@@ -1,12 +1,12 @@
 -- The requirements that are read so far have one level.
-use Rattle.std.proofs.Common.{◌≡◌, ℕ, ◌≤◌, Bool, true, false, if◌then◌else◌, List, [], ◌∷◌, ◌++◌, Option, Some, None, option_map, refl, subst, take, drop, ◌&&◌, arith}
+use Rattle.std.proofs.Common.{◌≡◌, ℕ, Bool, true, false, if◌then◌else◌, List, [], ◌∷◌, ◌++◌, Option, Some, None, option_map, refl, subst, take, drop, ◌&&◌, arith}
 use Rattle.std.specs.Prelude.{codes, bytes_eq}
 use Rattle.req_tree.specs.Tree as t
 use Rattle.req_tree.specs.Tree.{Tree}
 use Rattle.req_tree.specs.Depth.{depth_of}
 use Rattle.req_tree.specs.HashWord.{hash_word}
 use Rattle.req_tree.specs.Spellable.{IsShallow}
-use Rattle.req_grammar.specs.Requirement.{cd_hash_text, requirement, IsRequirement}
+use Rattle.req_grammar.specs.Requirement.{requirement, IsRequirement}
 
 -- where there is a tree it has one level
 abbrev IsOneLevel : Option Tree → Type 0

@@ -1,1 +1,12 @@
 pub mod Requirement
+pub mod Words
+pub mod Tokens
+pub mod Sorts
+pub mod Terminals
+pub mod Places
+pub mod Grammar
+pub mod Readings
+pub mod TokenFaults
+pub mod ReadingFaults
+pub mod Reader
+pub mod Laws

@@ -2,3 +2,6 @@
 #![tactic(auto)]
 
 pub mod laws;
+mod limits;
+
+pub use limits::{MOST_OPEN_PARENTHESES, MOST_TEXT_BYTES};
