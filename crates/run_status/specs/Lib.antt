@@ -1,0 +1,5 @@
+pub mod FileTexts
+pub mod Files
+pub mod Said
+pub mod Status
+pub mod Stops
