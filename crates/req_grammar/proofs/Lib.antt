@@ -16,3 +16,9 @@ pub mod OneFault
 pub mod Cutting
 pub mod Sound
 pub mod Rekeyed
+pub mod WorkedOids
+pub mod WorkedTexts
+pub mod WorkedCuts
+pub mod WorkedFaults
+pub mod WorkedLimits
+pub mod WorkedFirst

@@ -1,5 +1,5 @@
 -- A text has one first fault at most, and a text that has one has no tokens.
-use Rattle.std.proofs.Common.{◌≡◌, ◌≢◌, ℕ, suc, ◌+◌, ◌-◌, ◌<◌, ◌≤◌, ◌^◌, Bool, true, false, not, ◌&&◌, ◌||◌, ◌==◌, nat_eq, if◌then◌else◌, List, [], ◌∷◌, ◌++◌, length, take, drop, get_or, filter, flat_map, codes, refl, sym, ap, subst, ◌∙◌, inl, inr, true≢false, append_assoc, arith}
+use Rattle.std.proofs.Common.{◌≡◌, ◌≢◌, ℕ, suc, ◌+◌, ◌-◌, ◌<◌, ◌≤◌, ◌^◌, Bool, true, false, not, ◌&&◌, ◌||◌, ◌==◌, nat_eq, nat_le, if◌then◌else◌, List, [], ◌∷◌, ◌++◌, length, take, drop, get_or, filter, flat_map, codes, refl, sym, ap, subst, ◌∙◌, inl, inr, true≢false, append_assoc, arith}
 use Rattle.std.specs.List.{list_all, starts_with}
 use Rattle.std.proofs.lemmas.Bool.{leb-true}
 use Rattle.std.proofs.lemmas.List.{take-append-drop}
@@ -305,9 +305,11 @@ no_cut_hex run left text front rest is all stops bad e h =
 no_cut_large : (run left text front rest : List ℕ) → text ≡ run ++ left → is_run is_digit run ≡ true → goes_on is_digit left ≡ false
     → 2 ^ 31 < number_of run → text ≡ front ++ rest → IsCut integer front rest → ⊥
 no_cut_large run left text front rest is digits stops large e h =
-    let one : run ≡ front =
-    run_one is_digit run front left rest (both_true _ _ digits).1 (both_true _ _ (both_true _ _ h.0).0).1 stops h.1 (sym is ∙ e) in
-    let most : number_of front ≤ 2147483648 = leb-true (number_of front) 2147483648 (both_true _ _ h.0).1 in
+    let mine = both_true (goes_on is_digit run) (list_all is_digit run) digits in
+    let both = both_true (is_run is_digit front) (nat_le (number_of front) 2147483648) h.0 in
+    let theirs = both_true (goes_on is_digit front) (list_all is_digit front) both.0 in
+    let one : run ≡ front = run_one is_digit run front left rest mine.1 theirs.1 stops h.1 (sym is ∙ e) in
+    let most : number_of front ≤ 2147483648 = leb-true (number_of front) 2147483648 both.1 in
     let equal : number_of run ≡ number_of front = ap number_of one in
     absurd (omega (arith, most, large, equal))
 

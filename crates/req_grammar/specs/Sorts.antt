@@ -6,6 +6,7 @@ use Rattle.req_tree.specs.NumericOrder.{is_digit}
 use Rattle.req_grammar.specs.Tokens as k
 use Rattle.req_grammar.specs.Tokens.{IsToken, IsBlank, IsBlock, IsLine, goes_on, hash_mark, hex_mark, is_letter}
 
+-- the six kinds of token, and the three sorts of what is dropped
 pub data Sort : Type 0 where
   hash : Sort
   hex : Sort

@@ -25,6 +25,7 @@ pub record Token : Type 0 where
 abbrev pub is_letter : ℕ → Bool
 is_letter b = nat_le 65 b && nat_le b 90 || nat_le 97 b && nat_le b 122
 
+-- A to Z, a to z and 0 to 9
 abbrev pub is_letter_or_digit : ℕ → Bool
 is_letter_or_digit b = is_letter b || is_digit b
 
