@@ -1,5 +1,5 @@
 -- A text in which no LF is found has none.
-use Rattle.std.proofs.Common.{◌≡◌, ◌≢◌, ℕ, ◌≤◌, length, Bool, true, false, nat_lt, ◌==◌, List, All, get_or, Result, Some, None, Ok, Err, OnOk, if◌then◌else◌, arith, refl, subst}
+use Rattle.std.proofs.Common.{◌≡◌, ◌≢◌, ℕ, ◌≤◌, length, Bool, true, false, nat_lt, ◌==◌, List, All, get_or, Some, None, if◌then◌else◌, arith, refl, subst}
 use Rattle.std.specs.List.{position, position_or_len}
 use Rattle.std.proofs.lemmas.Bool.Decides.{nat_tests}
 use Rattle.std.proofs.lemmas.List.Sums.{fails_before_first}
@@ -16,8 +16,3 @@ pub no_lf : (text : List ℕ) → position (λ b. b == 10) text ≡ None → All
 no_lf text none =
     let far : length text ≤ position_or_len (λ b. b == 10) text = past_end (position_or_len (λ b. b == 10) text) (length text) _ refl none in
     λ k d inside. other (get_or text k d) (fails_before_first (λ b. b == 10) text k d (omega (arith, inside, far)))
-
--- what holds anyway holds where a call succeeds
-pub on_ok : {T E P : Type 0} (r : Result T E) → P → OnOk r P
-on_ok (Ok t) p = p
-on_ok (Err e) p = tt

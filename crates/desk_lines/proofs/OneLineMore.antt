@@ -1,33 +1,34 @@
 -- A desk's session goes on line by line.
-use Rattle.std.proofs.Common.{◌≡◌, ℕ, List, [], ◌∷◌, ◌++◌, take, Result, refl, ◌∙◌, sym, subst}
+use Rattle.std.proofs.Common.{◌≡◌, ℕ, List, [], ◌∷◌, ◌++◌, take, Result, refl, ◌∙◌, ap, subst}
 use Rattle.line_text.specs.declared.limits.TheConstants.{LINE_HELD}
 use Rattle.policy_model.specs.History.{Opening}
 use Rattle.desk_state.specs.declared.desk.Desk.{Desk}
 use Rattle.desk_state.specs.Stands.{Stands}
 use Rattle.session_model.specs.Laws.{FrontAsksTheSame}
 use Rattle.session_model.specs.LineFaults.{LineFault}
-use Rattle.session_model.specs.Lines.{Request, request_of}
+use Rattle.session_model.specs.Lines.{Request, Lined, lined, Asks, IsAsked}
 use Rattle.session_model.specs.Session.{State, Session, Replies}
 use Rattle.desk_lines.specs.Answered.{HasAnswered, HasReplied}
 
 session_more : (o : Opening) (s : State) (lines replies : List (List ℕ)) (mid after : State) (line reply : List ℕ)
-    → Session o s lines replies mid → Replies o mid (request_of line) reply after → Session o s (lines ++ line ∷ []) (replies ++ reply ∷ []) after
-session_more o s [] [] mid after line reply before r = (after, subst (λ (x : State). Replies o x (request_of line) reply after) before r, refl)
-session_more o s (l ∷ lines) (a ∷ replies) mid after line reply before r = (before.0, before.1, session_more o before.0 lines replies mid after line reply before.2 r)
-session_more o s [] (a ∷ replies) mid after line reply before r = absurd before
-session_more o s (l ∷ lines) [] mid after line reply before r = absurd before
+    → (asked : Result Request LineFault) → Session o s lines replies mid → IsAsked line asked → Replies o mid asked reply after
+    → Session o s (lines ++ line ∷ []) (replies ++ reply ∷ []) after
+session_more o s [] [] mid after line reply asked before is r = (asked, after, is, subst (λ (x : State). Replies o x asked reply after) before r, refl)
+session_more o s (l ∷ lines) (a ∷ replies) mid after line reply asked before is r =
+    (before.0, before.1, before.2, before.3, session_more o before.1 lines replies mid after line reply asked before.4 is r)
+session_more o s [] (a ∷ replies) mid after line reply asked before is r = absurd before
+session_more o s (l ∷ lines) [] mid after line reply asked before is r = absurd before
 
 -- a desk that replied to what a line's front asks for answered one line more
 pub answered_more : (start old new : Desk) (asked : Result Request LineFault) (reply line whole : List ℕ) (lines replies : List (List ℕ))
-    → FrontAsksTheSame → request_of line ≡ asked → line ≡ take LINE_HELD whole → HasReplied old new asked reply → HasAnswered start old lines replies
+    → FrontAsksTheSame → IsAsked line asked → line ≡ take LINE_HELD whole → HasReplied old new asked reply → HasAnswered start old lines replies
     → HasAnswered start new (lines ++ whole ∷ []) (replies ++ reply ∷ [])
 answered_more start old new asked reply line whole lines replies same asks front replied answered = λ o s stands.
     let before = answered o s stands in
     let step = replied o before.0 before.2 in
-    let asks_whole : asked ≡ request_of whole = sym asks ∙ subst (λ l. request_of l ≡ request_of whole) (sym front) (same whole) in (
+    let asks_whole : IsAsked whole asked = subst (λ (read : Result Lined LineFault). Asks read asked) (ap lined front ∙ same whole) asks in (
       step.0,
-      session_more o s lines replies before.0 step.0 whole reply before.1
-          (subst (λ (r : Result Request LineFault). Replies o before.0 r reply step.0) asks_whole step.1),
+      session_more o s lines replies before.0 step.0 whole reply asked before.1 asks_whole step.1,
       step.2,
     )
 

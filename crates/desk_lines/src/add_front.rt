@@ -5,7 +5,7 @@ ghost use Rattle.req_tree.specs.Tree.{tree_of};
 ghost use Rattle.req_grammar.specs.Requirement.{IsRequirement};
 ghost use Rattle.policy_model.specs.Contents.{IsRuleText};
 ghost use Rattle.session_model.specs.Forms.{key_at};
-ghost use Rattle.session_model.specs.Lines.{front_at, terms_at, adds};
+ghost use Rattle.session_model.specs.Lines.{front_at, terms_at, adding};
 ghost use Rattle.line_words.specs.Left.{left, Takes};
 ghost use Rattle.desk_state.specs.EditKey.{key_bytes};
 ghost use Rattle.desk_state.specs.Edit.{edit_of};
@@ -14,16 +14,18 @@ ghost use Rattle.desk_lines.specs.AddFront.{front_of, terms_of};
 use authority_table::{Kind, Label, Moment, Priority};
 use desk_state::{Content, Edit, EditKey, NewRule};
 use line_text::Bytes;
-use line_words::{Cursor, LineFault};
+use line_words::{Cursor, Flags, LineFault};
 use req_grammar::laws::requirements_are_shallow;
 use req_tree::{Req, SharedReq};
 use std::alloc::{AllocError, Global};
 
-/// When a rule is tried, and until when it is in force.
+/// When a rule is tried, until when it is in force, its name and its flags.
 #[derive(Drop)]
 pub struct Terms {
     pub priority: Priority,
     pub expires: Option<Moment>,
+    pub label: Label,
+    pub flags: Flags,
 }
 
 /// An edit's key, and the rule that it adds but for its requirement.
@@ -51,15 +53,20 @@ pub fn read_front(words: &mut Cursor) -> Result<AddFront, LineFault>
     })
 }
 
-/// PRIORITY EXPIRY - -
+/// PRIORITY EXPIRY LABEL FLAGS
 fn read_terms(words: &mut Cursor) -> Result<Terms, LineFault>
     ensures { Takes terms_of (left words.new) result (terms_at (left words.old)) }
 {
     let priority = words.priority()?;
     let expires = words.expiry()?;
-    words.label()?;
-    words.flags()?;
-    Ok(Terms { priority, expires })
+    let label = words.label()?;
+    let flags = words.flags()?;
+    Ok(Terms {
+        priority,
+        expires,
+        label,
+        flags,
+    })
 }
 
 /// The next word as an edit's key.
@@ -74,19 +81,25 @@ impl AddFront {
     pub fn with_requirement(self, alloc: Global, text: &[u8], req: Req) -> Result<Edit, AllocError>
         requires reads { IsRequirement text.now (tree_of req) }
         requires text_is { IsRuleText text.now }
-        ensures { IfOk result (λ edit. edit_of edit ≡ adds (front_of self) text.now (tree_of req)) }
+        ensures { IfOk result (λ edit. edit_of edit ≡ adding (front_of self) text.now (tree_of req)) }
     {
         requirements_are_shallow();
         let tree = SharedReq::new(alloc, req)?;
         let text = Bytes::copy_of(alloc, text)?;
+        let Terms {
+            priority,
+            expires,
+            label,
+            flags,
+        } = self.terms;
         let rule = NewRule {
             kind: self.kind,
             allow: self.allow,
-            priority: self.terms.priority,
-            expires: self.terms.expires,
-            label: Label::empty(),
-            is_default: false,
-            inhibit: false,
+            priority,
+            expires,
+            label,
+            is_default: flags.is_default,
+            inhibit: flags.inhibit,
             text,
             tree,
         };

@@ -1,19 +1,17 @@
 //! What a line of a session asks for.
 
 ghost use Rattle.std.specs.Prelude.{◌≡◌, ℕ};
-ghost use Rattle.session_model.specs.Lines.{request_of, request_at, tick_at, ask_at, add_at};
+ghost use Rattle.session_model.specs.Lines.{lined, lined_at, tick_at, ask_at, add_at};
 ghost use Rattle.line_words.specs.Left.{left, Gives};
 ghost use Rattle.desk_state.specs.Ask.{ask_of};
-ghost use Rattle.desk_state.specs.Edit.{edit_of};
-ghost use Rattle.desk_lines.specs.Requests.{request_view, Reads};
+ghost use Rattle.desk_lines.specs.Requests.{Tells};
 
 use crate::add_front::read_front;
-use crate::requirement::read_requirement;
+use crate::requirement::{read_requirement, read_text};
 use authority_table::Moment;
 use desk_state::{Ask, Edit};
 use line_text::{LINE_HELD, LINE_LIMIT};
 use line_words::{Cursor, LineFault};
-use req_tree::Subject;
 use std::alloc::{AllocError, Global};
 
 /// What a line asks for.
@@ -55,7 +53,7 @@ impl From<AllocError> for Unread {
 
 /// What the line asks for. A longer line than may be is refused in the first column past the limit.
 pub fn read_request(alloc: Global, line: &[u8]) -> Result<Request, Unread>
-    ensures { Reads request_view result (request_of line.now) }
+    ensures { Tells result (lined line.now) }
 {
     if line.len() <= LINE_LIMIT {
         read_form(alloc, &mut Cursor::of(line))
@@ -68,7 +66,7 @@ pub fn read_request(alloc: Global, line: &[u8]) -> Result<Request, Unread>
 
 /// A line by its first word.
 fn read_form(alloc: Global, words: &mut Cursor) -> Result<Request, Unread>
-    ensures { Reads request_view result (request_at (left words.old)) }
+    ensures { Tells result (lined_at (left words.old)) }
 {
     let form = words.next()?;
     if form == b"tick".as_slice() {
@@ -76,7 +74,7 @@ fn read_form(alloc: Global, words: &mut Cursor) -> Result<Request, Unread>
     } else if form == b"assess".as_slice() {
         Ok(Request::Assess(read_ask(words)?))
     } else if form == b"add".as_slice() {
-        Ok(Request::Edit(read_add(alloc, words)?))
+        read_add(alloc, words)
     } else {
         Err(Unread::Refused(LineFault::NotBuilt))
     }
@@ -91,34 +89,27 @@ fn read_tick(words: &mut Cursor) -> Result<Moment, LineFault>
     Ok(at)
 }
 
-/// KIND HASH IDENTIFIER PLATFORM
+/// KIND and the subject
 fn read_ask(words: &mut Cursor) -> Result<Ask, LineFault>
     ensures { Gives ask_of result (ask_at (left words.old)) }
 {
     let kind = words.kind()?;
-    let cdhash = words.hash()?;
-    let identifier = words.identifier()?;
-    let platform = words.platform()?;
+    let subject = words.subject()?;
     words.end()?;
-    let subject = Subject {
-        cdhash,
-        identifier,
-        platform,
-    };
     Ok(Ask {
         kind,
-        subject: Some(subject),
+        subject,
         keep: true,
     })
 }
 
-/// KEY KIND VERDICT PRIORITY EXPIRY - - REQUIREMENT
-fn read_add(alloc: Global, words: &mut Cursor) -> Result<Edit, Unread>
-    ensures { Reads edit_of result (add_at (left words.old)) }
+/// KEY KIND VERDICT PRIORITY EXPIRY LABEL FLAGS REQUIREMENT
+fn read_add(alloc: Global, words: &mut Cursor) -> Result<Request, Unread>
+    ensures { Tells result (add_at (left words.old)) }
 {
     let front = read_front(words)?;
-    let text = words.rest()?;
-    let req = read_requirement(text, words.column())?;
+    let text = read_text(words)?;
+    let req = read_requirement(text)?;
     let edit = front.with_requirement(alloc, text, req)?;
-    Ok(edit)
+    Ok(Request::Edit(edit))
 }

@@ -1,37 +1,48 @@
 //! The requirements that are read so far.
 
-ghost use Rattle.std.specs.Prelude.{◌≡◌, ◌≤◌, ◌+◌, ◌==◌, length, position, IfOk, OnOk};
+ghost use Rattle.std.specs.Prelude.{◌≡◌, ◌==◌, ℕ, List, position, IfOk};
 ghost use Rattle.std.specs.Option.{option_map};
-ghost use Rattle.line_text.specs.declared.limits.TheConstants.{LINE_HELD};
 ghost use Rattle.req_tree.specs.Tree.{tree_of};
-ghost use Rattle.req_grammar.specs.Requirement.{requirement, cd_hash_text, IsRequirement};
+ghost use Rattle.req_grammar.specs.Requirement.{requirement, cd_hash_text};
 ghost use Rattle.policy_model.specs.Contents.{IsRuleText};
-ghost use Rattle.session_model.specs.Lines.{requirement_of};
-ghost use Rattle.line_words.specs.Left.{Gives};
+ghost use Rattle.session_model.specs.Lines.{text_at};
+ghost use Rattle.line_words.specs.Left.{left, Gives};
+ghost use Rattle.desk_lines.specs.Requests.{Parses};
+ghost use denote.Bor.{Bor};
 
-use line_words::LineFault;
+use crate::request::Unread;
+use line_words::{Cursor, LineFault};
 use policy_model::limits::MOST_TEXT_BYTES;
 use req_tree::{Req, read_hash};
 
 /// How long a requirement on the hash of code is.
 const CD_HASH_LENGTH: usize = 50;
 
-/// The requirement of a text that begins in this column.
-pub fn read_requirement(text: &[u8], column: u32) -> Result<Req, LineFault>
-    requires { column + length text.now ≤ LINE_HELD }
-    ensures read { Gives tree_of result (requirement_of column text.now) }
-    ensures is { IfOk result (λ req. IsRequirement text.now (tree_of req)) }
-    ensures rule_text { OnOk result (IsRuleText text.now) }
+/// The rest of a line as a requirement's text: it isn't too long, and has no LF.
+pub fn read_text<'a>(words: &Cursor<'a>) -> Result<&'a [u8], LineFault>
+    ensures text { Gives (λ (text : Bor (List ℕ)). text.now) result (text_at (left words.now)) }
+    ensures rule_text { IfOk result (λ text. IsRuleText text.now) }
 {
+    let text = words.rest()?;
     if text.len() > MOST_TEXT_BYTES {
         return Err(LineFault::RequirementTooLong);
     }
-    if let Some(place) = find_lf(text) {
-        return Err(LineFault::BadLine {
-            column: column + place as u32,
-        });
+    match find_lf(text) {
+        None => Ok(text),
+        Some(place) => Err(LineFault::BadLine {
+            column: words.column() + place as u32,
+        }),
     }
-    requirement_in(text).ok_or(LineFault::BadRequirement)
+}
+
+/// The requirement of a text.
+pub fn read_requirement(text: &[u8]) -> Result<Req, Unread>
+    ensures { Parses result text.now }
+{
+    match requirement_in(text) {
+        Some(req) => Ok(req),
+        None => Err(Unread::Refused(LineFault::BadRequirement)),
+    }
 }
 
 /// The place of the first LF.

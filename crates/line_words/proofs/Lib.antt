@@ -1,3 +1,4 @@
+mod BytesRead
 mod FewDigits
 mod FirstWord
 mod OneWordAtLeast

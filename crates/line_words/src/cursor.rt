@@ -1,19 +1,20 @@
 //! A line whose words are taken off one after the other.
 
 ghost use Rattle.std.specs.Prelude.{◌≡◌, ◌≤◌, ◌+◌, ℕ, List, [], length, IfOk, OnErr};
-ghost use Rattle.std.specs.Option.{option_copied, ForSome};
+ghost use Rattle.std.specs.Option.{option_copied, option_map, ForSome};
 ghost use Rattle.line_text.specs.declared.limits.TheConstants.{LINE_HELD};
 ghost use Rattle.line_text.specs.declared.limits.TheConstants.{LINE_LIMIT};
 ghost use denote.Bor.{Bor};
 
 use crate::fault::LineFault;
+use crate::flags::Flags;
 use crate::reading::{
-    is_dash, read_allow, read_expiry, read_identifier, read_kind, read_moment, read_platform,
-    read_priority,
+    read_allow, read_expiry, read_flags, read_identifier, read_kind, read_label, read_moment,
+    read_platform, read_priority,
 };
 use crate::split::split_word;
-use authority_table::{Kind, Moment, Priority};
-use req_tree::{Hash20, Identifier, read_hash};
+use authority_table::{Kind, Label, Moment, Priority};
+use req_tree::{Hash20, Identifier, Subject, read_hash};
 
 /// What is left of a line. After its last word nothing is left, which isn't one empty word.
 #[derive(Drop)]
@@ -29,9 +30,11 @@ pub struct Cursor<'a> {
 impl<'a> Cursor<'a> {
     ghost use Rattle.session_model.specs.Left.{all_of, word_at, end_at};
     ghost use Rattle.session_model.specs.Forms.{moment_at, expiry_at, kind_at, allow_at, priority_at, label_at, flags_at, hash_at, identifier_at, platform_at};
-    ghost use Rattle.session_model.specs.Lines.{rest_at};
-    ghost use Rattle.req_tree.specs.Subject.{identifier_bytes};
+    ghost use Rattle.session_model.specs.Lines.{rest_at, signed_at, subject_at};
+    ghost use Rattle.req_tree.specs.Subject.{identifier_bytes, subject_of};
+    ghost use Rattle.authority_table.specs.Label.{label_bytes};
     ghost use Rattle.authority_table.specs.Kind.{kind_of};
+    ghost use Rattle.line_words.specs.Flags.{flags_of};
     ghost use Rattle.line_words.specs.Left.{left, Takes, Gives};
 
     /// All words of a line.
@@ -119,27 +122,48 @@ impl<'a> Cursor<'a> {
         read_priority(self.next()?).ok_or(LineFault::BadPriority)
     }
 
-    /// The next word as a label, which so far is a dash and stands for no bytes.
-    pub fn label(&mut self) -> Result<(), LineFault>
-        ensures { Takes (λ _. []) (left self.new) result (label_at (left self.old)) }
+    /// The next word as a label.
+    pub fn label(&mut self) -> Result<Label, LineFault>
+        ensures { Takes label_bytes (left self.new) result (label_at (left self.old)) }
     {
-        if is_dash(self.next()?) {
-            Ok(())
-        } else {
-            Err(LineFault::BadLabel)
-        }
+        read_label(self.next()?).ok_or(LineFault::BadLabel)
     }
 
-    /// The next word as flags, which so far are a dash and stand for none.
-    pub fn flags(&mut self) -> Result<(), LineFault>
-        ensures { Takes (λ _. []) (left self.new) result (flags_at (left self.old)) }
+    /// The next word as flags.
+    pub fn flags(&mut self) -> Result<Flags, LineFault>
+        ensures { Takes flags_of (left self.new) result (flags_at (left self.old)) }
     {
         let column = self.column;
-        if is_dash(self.next()?) {
-            Ok(())
-        } else {
-            Err(LineFault::BadLine { column })
+        read_flags(self.next()?).ok_or(LineFault::BadLine { column })
+    }
+
+    /// The next words as signed code, or the word `unsigned`.
+    pub fn subject(&mut self) -> Result<Option<Subject>, LineFault>
+        ensures { Takes (option_map subject_of) (left self.new) result (subject_at (left self.old)) }
+    {
+        let rest = self.rest;
+        let column = self.column;
+        if self.next()? == b"unsigned".as_slice() {
+            return Ok(None);
         }
+        self.rest = rest;
+        self.column = column;
+        let subject = self.signed()?;
+        Ok(Some(subject))
+    }
+
+    /// The next words as a hash, an identifier and a platform.
+    fn signed(&mut self) -> Result<Subject, LineFault>
+        ensures { Takes subject_of (left self.new) result (signed_at (left self.old)) }
+    {
+        let cdhash = self.hash()?;
+        let identifier = self.identifier()?;
+        let platform = self.platform()?;
+        Ok(Subject {
+            cdhash,
+            identifier,
+            platform,
+        })
     }
 
     /// The next word as the hash of code.

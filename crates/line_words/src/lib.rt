@@ -3,14 +3,17 @@
 
 mod cursor;
 mod fault;
+mod flags;
 mod number;
 mod reading;
 mod split;
+mod word_text;
 
 pub use cursor::Cursor;
 pub use fault::LineFault;
+pub use flags::Flags;
 pub use number::read_number;
 pub use reading::{
-    is_dash, read_allow, read_expiry, read_identifier, read_kind, read_moment, read_platform,
-    read_priority,
+    read_allow, read_expiry, read_flags, read_identifier, read_kind, read_label, read_moment,
+    read_platform, read_priority,
 };

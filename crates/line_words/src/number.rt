@@ -1,6 +1,6 @@
 //! Numbers as decimal digits.
 
-ghost use Rattle.std.specs.Prelude.{◌≡◌, ◌≤◌, length, Some, None, if◌then◌else◌};
+ghost use Rattle.std.specs.Prelude.{◌≡◌, ◌≤◌, length, Some, None, IfSome, if◌then◌else◌};
 ghost use Rattle.std.specs.List.{list_all};
 ghost use Rattle.std.specs.Char.{is_ascii_digit};
 ghost use Rattle.req_tree.specs.NumericOrder.{number_of};
@@ -9,7 +9,8 @@ ghost use Rattle.session_model.specs.Words.{number_word};
 /// The number of 1 to `most` digits, where it is at most the greatest.
 pub fn read_number(word: &[u8], most: usize, greatest: u64) -> Option<u64>
     requires { most ≤ 19 }
-    ensures { result ≡ number_word most greatest word.now }
+    ensures number { result ≡ number_word most greatest word.now }
+    ensures within { IfSome result (λ n. n ≤ greatest) }
 {
     if word.is_empty() || word.len() > most {
         return None;

@@ -1,19 +1,25 @@
 //! What a single word stands for.
 
-ghost use Rattle.std.specs.Prelude.{◌≡◌, ◌↔◌, ◌≤ℤ◌, pos, codes, IsTrue, IfSome};
+ghost use Rattle.std.specs.Prelude.{◌≡◌, ◌≤◌, ◌*◌, ◌≤ℤ◌, ◌==◌, nat_le, nat_lt, pos, position, Some, None, if◌then◌else◌, IfSome};
 ghost use Rattle.std.specs.Option.{option_map};
 ghost use Rattle.std.specs.List.{list_all};
-ghost use Rattle.line_text.specs.WordText.{is_plain};
-ghost use Rattle.session_model.specs.Words.{moment_word, expiry_word, kind_word, allow_word, priority_word, units_word, identifier_word, platform_word};
+ghost use Rattle.policy_model.specs.declared.limits.TheConstants.{UNIT};
+ghost use Rattle.session_model.specs.declared.limits.TheConstants.{GREATEST_UNITS};
+ghost use Rattle.session_model.specs.Words.{moment_word, expiry_word, kind_word, allow_word, priority_word, amount_word, units_word, fraction_word, label_word, flags_word, identifier_word, platform_word};
+ghost use Rattle.authority_table.specs.Label.{label_bytes};
+ghost use Rattle.line_words.specs.Flags.{flags_of};
 ghost use Rattle.req_tree.specs.Subject.{identifier_bytes};
 ghost use Rattle.authority_table.specs.Kind.{kind_of};
 
+use crate::flags::Flags;
 use crate::number::read_number;
-use authority_table::{Kind, Moment, Priority};
-use policy_model::limits::{GREATEST_MOMENT, UNIT};
-use req_tree::Identifier;
+use crate::word_text::read_bytes;
+use authority_table::{Kind, Label, Moment, Priority};
+use policy_model::limits::{GREATEST_MOMENT, MOST_LABEL_BYTES, UNIT};
+use req_tree::{Identifier, MOST_IDENTIFIER_BYTES};
 use session_model::limits::{
-    GREATEST_PLATFORM, GREATEST_UNITS, MOMENT_DIGITS, PLATFORM_DIGITS, PRIORITY_DIGITS,
+    FRACTION_DIGITS, GREATEST_PLATFORM, GREATEST_UNITS, MOMENT_DIGITS, PLATFORM_DIGITS,
+    PRIORITY_DIGITS,
 };
 
 pub fn read_moment(word: &[u8]) -> Option<Moment>
@@ -58,54 +64,123 @@ pub fn read_allow(word: &[u8]) -> Option<bool>
     }
 }
 
-/// A priority in whole units, with a minus sign or none.
+/// A priority: whole units and perhaps a fraction, with a minus sign or none.
 pub fn read_priority(word: &[u8]) -> Option<Priority>
     ensures { result ≡ priority_word word.now }
 {
     match word {
         [] => None,
-        [b'-', digits @ ..] => {
-            let millionths = read_units(digits)?;
+        [b'-', amount @ ..] => {
+            let millionths = read_amount(amount)?;
             Priority::of(-millionths)
         }
-        _ => Priority::of(read_units(word)?),
+        _ => Priority::of(read_amount(word)?),
     }
 }
 
-/// Up to a million whole units, in millionths.
-fn read_units(word: &[u8]) -> Option<i64>
-    ensures value { result ≡ option_map pos (units_word word.now) }
+/// Up to a million units, in millionths.
+fn read_amount(word: &[u8]) -> Option<i64>
+    ensures value { result ≡ option_map pos (amount_word word.now) }
     ensures least { IfSome result (λ n. pos 0 ≤ℤ n) }
     ensures greatest { IfSome result (λ n. n ≤ℤ pos 1000000000000) }
 {
+    let millionths = match find_dot(word) {
+        None => read_units(word)?,
+        Some(dot) => {
+            let units = read_units(&word[..dot])?;
+            let fraction = read_fraction(&word[dot + 1..])?;
+            within(units + fraction)?
+        }
+    };
+    Some(millionths as i64)
+}
+
+/// The place of the first dot.
+fn find_dot(word: &[u8]) -> Option<usize>
+    ensures { result ≡ position (λ byte. byte == 46) word.now }
+{
+    word.iter().position(|byte| *byte == b'.')
+}
+
+/// Up to a million whole units, in millionths.
+fn read_units(word: &[u8]) -> Option<u64>
+    ensures value { result ≡ units_word word.now }
+    ensures most { IfSome result (λ n. n ≤ GREATEST_UNITS * UNIT) }
+{
     let units = read_number(word, PRIORITY_DIGITS, GREATEST_UNITS)?;
-    Some((units * UNIT) as i64)
+    Some(units * UNIT)
 }
 
-pub fn is_dash(word: &[u8]) -> bool
-    ensures { IsTrue result ↔ (word.now ≡ codes "-") }
+/// The digits of a fraction, in millionths.
+fn read_fraction(word: &[u8]) -> Option<u64>
+    ensures value { result ≡ fraction_word word.now }
+    ensures most { IfSome result (λ n. n ≤ 1000000000000) }
 {
-    word == b"-".as_slice()
+    let number = read_number(word, FRACTION_DIGITS, UNIT - 1)?;
+    Some(number * 10u64.pow((FRACTION_DIGITS - word.len()) as u32))
 }
 
-/// An identifier that stands for itself: printable bytes other than `%`, and not `-`.
-pub fn read_identifier(word: &[u8]) -> Option<Identifier>
-    ensures { option_map identifier_bytes result ≡ identifier_word word.now }
+/// At most the greatest priority.
+fn within(millionths: u64) -> Option<u64>
+    ensures { result ≡ (if nat_le millionths (GREATEST_UNITS * UNIT) then Some millionths else None) }
 {
-    let plain = is_plain_text(word);
-    let dash = is_dash(word);
-    if plain && !dash {
-        Identifier::of(word)
+    if millionths <= GREATEST_UNITS * UNIT {
+        Some(millionths)
     } else {
         None
     }
 }
 
-fn is_plain_text(word: &[u8]) -> bool
-    ensures { result ≡ list_all is_plain word.now }
+/// A rule's label.
+pub fn read_label(word: &[u8]) -> Option<Label>
+    ensures { option_map label_bytes result ≡ label_word word.now }
 {
-    word.iter()
-        .all(|byte| 0x21 <= *byte && *byte <= 0x7e && *byte != b'%')
+    let bytes = read_bytes(word, MOST_LABEL_BYTES)?;
+    Some(Label::holding(bytes.as_slice()))
+}
+
+/// A rule's flags.
+pub fn read_flags(word: &[u8]) -> Option<Flags>
+    ensures { option_map flags_of result ≡ flags_word word.now }
+{
+    if word == b"-".as_slice() {
+        Some(flags(false, false))
+    } else if word == b"default".as_slice() {
+        Some(flags(true, false))
+    } else if word == b"inhibit".as_slice() {
+        Some(flags(false, true))
+    } else if word == b"default+inhibit".as_slice() {
+        Some(flags(true, true))
+    } else {
+        None
+    }
+}
+
+fn flags(is_default: bool, inhibit: bool) -> Flags
+    ensures { flags_of result ≡ record { is_default = is_default; inhibit = inhibit } }
+{
+    Flags {
+        is_default,
+        inhibit,
+    }
+}
+
+/// An identifier.
+pub fn read_identifier(word: &[u8]) -> Option<Identifier>
+    ensures { option_map identifier_bytes result ≡ identifier_word word.now }
+{
+    let bytes = read_bytes(word, MOST_IDENTIFIER_BYTES)?;
+    if has_no_zero(bytes.as_slice()) {
+        Identifier::of(bytes.as_slice())
+    } else {
+        None
+    }
+}
+
+fn has_no_zero(bytes: &[u8]) -> bool
+    ensures { result ≡ list_all (λ b. nat_lt 0 b) bytes.now }
+{
+    bytes.iter().all(|byte| 0 < *byte)
 }
 
 /// The number of a platform, 0 to 255.

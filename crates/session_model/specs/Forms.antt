@@ -2,7 +2,7 @@
 use Rattle.std.specs.Prelude.{ℕ, ℤ, List, Bool, Option, Result}
 use Rattle.req_tree.specs.HashWord.{hash_word}
 use Rattle.policy_model.specs.Rules.{Kind}
-use Rattle.session_model.specs.Words.{moment_word, expiry_word, kind_word, allow_word, priority_word, dash_word, key_word, identifier_word, platform_word}
+use Rattle.session_model.specs.Words.{moment_word, expiry_word, kind_word, allow_word, priority_word, label_word, Flags, flags_word, key_word, identifier_word, platform_word}
 use Rattle.session_model.specs.LineFaults.{LineFault, bad_priority, bad_moment, bad_label, bad_key}
 use Rattle.session_model.specs.Left.{Left, value_at, misfit}
 
@@ -26,13 +26,13 @@ allow_at left = value_at allow_word (misfit left) left
 abbrev pub priority_at : Left → Result (ℤ × Left) LineFault
 priority_at left = value_at priority_word bad_priority left
 
--- a label: so far a dash
+-- a label
 abbrev pub label_at : Left → Result (List ℕ × Left) LineFault
-label_at left = value_at dash_word bad_label left
+label_at left = value_at label_word bad_label left
 
--- flags: so far a dash
-abbrev pub flags_at : Left → Result (List ℕ × Left) LineFault
-flags_at left = value_at dash_word (misfit left) left
+-- flags
+abbrev pub flags_at : Left → Result (Flags × Left) LineFault
+flags_at left = value_at flags_word (misfit left) left
 
 -- the key of an edit
 abbrev pub key_at : Left → Result (List ℕ × Left) LineFault

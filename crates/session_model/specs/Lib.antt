@@ -1,3 +1,4 @@
+pub mod WordTexts
 pub mod Words
 pub mod LineFaults
 pub mod Left

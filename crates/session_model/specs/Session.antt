@@ -4,7 +4,7 @@ use Rattle.policy_model.specs.History.{Event, Opening, now_of, ask_answer, edit_
 use Rattle.policy_model.specs.History as event
 use Rattle.policy_model.specs.ReplyTexts.{now_text, verdict_text, origin_on, fate_on, answer_text}
 use Rattle.session_model.specs.LineFaults.{LineFault, line_fault_text}
-use Rattle.session_model.specs.Lines.{Request, tick, assess, edit, request_of}
+use Rattle.session_model.specs.Lines.{Request, tick, assess, edit, IsAsked}
 
 -- where a session stands: what has happened on the desk
 pub record State : Type 0 where
@@ -28,7 +28,8 @@ Replies o s (Err fault) reply after = (after ≡ s) × (reply ≡ line_fault_tex
 -- the lines get the replies, line by line, and lead from the state s to the state after
 abbrev pub Session : Opening → State → List (List ℕ) → List (List ℕ) → State → Type 0
 Session o s [] [] after = after ≡ s
-Session o s (line ∷ lines) (reply ∷ replies) after = (mid : State) × Replies o s (request_of line) reply mid × Session o mid lines replies after
+Session o s (line ∷ lines) (reply ∷ replies) after =
+    (asked : Result Request LineFault) × (mid : State) × IsAsked line asked × Replies o s asked reply mid × Session o mid lines replies after
 Session o s [] (reply ∷ replies) after = ⊥
 Session o s (line ∷ lines) [] after = ⊥
 

@@ -6,6 +6,9 @@ pub const MOMENT_DIGITS: usize = 12;
 /// How many digits a priority may have before its fraction.
 pub const PRIORITY_DIGITS: usize = 7;
 
+/// How many digits the fraction of a priority may have.
+pub const FRACTION_DIGITS: usize = 6;
+
 /// The greatest priority, in whole units.
 pub const GREATEST_UNITS: u64 = 1_000_000;
 
