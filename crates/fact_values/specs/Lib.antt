@@ -1,0 +1,4 @@
+pub mod Keyed
+pub mod Knowledge
+pub mod Growth
+pub mod Pieces
