@@ -6,7 +6,7 @@ use Rattle.std.proofs.lemmas.Slice.Eq.{bytes_eq-Decides}
 use Rattle.std.proofs.Math.Bool.{and-false}
 use Rattle.req_tree.specs.HashWord.{hash_word}
 use Rattle.req_tree.specs.Tree.{cd_hash}
-use Rattle.req_grammar.specs.Requirement.{cd_hash_text}
+use Rattle.short_requirements.specs.Requirement.{cd_hash_text}
 
 pub cd_hash_found : (text hash : List ℕ) → take 9 text ≡ codes "cdhash H" ++ 34 ∷ [] → drop 49 text ≡ 34 ∷ [] → hash_word (take 40 (drop 9 text)) ≡ Some hash
     → cd_hash_text text ≡ Some (cd_hash hash)

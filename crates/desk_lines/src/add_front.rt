@@ -2,7 +2,7 @@
 
 ghost use Rattle.std.specs.Prelude.{◌≡◌, IfOk};
 ghost use Rattle.req_tree.specs.Tree.{tree_of};
-ghost use Rattle.req_grammar.specs.Requirement.{IsRequirement};
+ghost use Rattle.short_requirements.specs.Requirement.{IsRequirement};
 ghost use Rattle.policy_model.specs.Contents.{IsRuleText};
 ghost use Rattle.session_model.specs.Forms.{key_at};
 ghost use Rattle.session_model.specs.Lines.{front_at, terms_at, adding};
@@ -15,7 +15,7 @@ use authority_table::{Kind, Label, Moment, Priority};
 use desk_state::{Content, Edit, EditKey, NewRule};
 use line_text::Bytes;
 use line_words::{Cursor, Flags, LineFault};
-use req_grammar::laws::requirements_are_shallow;
+use short_requirements::laws::requirements_are_shallow;
 use req_tree::{Req, SharedReq};
 use std::alloc::{AllocError, Global};
 

@@ -3,7 +3,7 @@
 ghost use Rattle.std.specs.Prelude.{◌≡◌, ◌==◌, ℕ, List, position, IfOk};
 ghost use Rattle.std.specs.Option.{option_map};
 ghost use Rattle.req_tree.specs.Tree.{tree_of};
-ghost use Rattle.req_grammar.specs.Requirement.{requirement, cd_hash_text};
+ghost use Rattle.short_requirements.specs.Requirement.{requirement, cd_hash_text};
 ghost use Rattle.policy_model.specs.Contents.{IsRuleText};
 ghost use Rattle.session_model.specs.Lines.{text_at};
 ghost use Rattle.line_words.specs.Left.{left, Gives};

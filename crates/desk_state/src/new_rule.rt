@@ -5,7 +5,7 @@ ghost use Rattle.line_text.specs.LineText.{line_bytes};
 ghost use Rattle.line_text.specs.declared.limits.TheConstants.{FRONT_LIMIT, LINE_ROOM};
 ghost use Rattle.std.specs.Coded.{Coded-set, coded_option};
 ghost use Rattle.req_tree.specs.TreeCode.{tree_code};
-ghost use Rattle.req_grammar.specs.Requirement.{IsRequirement, requirement};
+ghost use Rattle.short_requirements.specs.Requirement.{IsRequirement, requirement};
 ghost use Rattle.policy_model.specs.Contents.{IsRuleText};
 ghost use Rattle.policy_model.specs.Texts.{add_front, verdict_word, expiry_text, flags_text};
 

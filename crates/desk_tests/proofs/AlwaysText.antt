@@ -2,7 +2,7 @@
 use Rattle.std.proofs.Common.{ℕ, ◌≡◌, ◌≢◌, List, [], codes, arith, Some, sym, subst, ap}
 use Rattle.std.proofs.lemmas.List.Elements.{All-nil, All-cons}
 use Rattle.req_tree.specs.Tree.{Tree, always}
-use Rattle.req_grammar.specs.Requirement.{requirement, IsRequirement}
+use Rattle.short_requirements.specs.Requirement.{requirement, IsRequirement}
 use Rattle.policy_model.specs.Contents.{IsRuleText}
 
 abbrev NotLineEnd : ℕ → Type 0

@@ -1,4 +1,3 @@
-pub mod OneLevel
 pub mod Readings
 pub mod Keys
 pub mod Shapes

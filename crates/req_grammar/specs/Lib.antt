@@ -1,4 +1,3 @@
-pub mod Requirement
 pub mod Words
 pub mod Tokens
 pub mod Sorts

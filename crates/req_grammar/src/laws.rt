@@ -1,17 +1,8 @@
 //! Laws over the definitions: functions that do nothing and whose contracts are the laws.
 
-ghost use Rattle.std.specs.Prelude.{ℕ, List};
-ghost use Rattle.req_tree.specs.Tree.{Tree};
-ghost use Rattle.req_tree.specs.Spellable.{IsShallow};
-ghost use Rattle.req_grammar.specs.Requirement.{IsRequirement};
 ghost use Rattle.req_grammar.specs.Laws.{FaultyTextsHaveNoTokens, FrontsAreViable, FrontsAreViableSets, FrontsTellTheirSort, GoodKeysAreRead, GoodSetsAreRead, OneFirstFault, OneReading, OneSet, OneTokenList, OneTree, OneTreeSet, ParenthesesBalance, ParenthesesOfSetsBalance, ReadingsHaveNoBadKey, ReadingsHaveShapes, SetTextsAreEncodable, SetsHaveNoBadKey, SetsHaveShapes, SetsRepeatNoKind, ShapesAreRead, TerminalsFitTheirKind, TextsAreEncodable, TokensArePlaced};
 
 use req_tree::laws::a_text_has_one_oid;
-
-/// The tree of a requirement is no deeper than a requirement may be.
-pub fn requirements_are_shallow()
-    ensures { (text : List ℕ) (tree : Tree) → IsRequirement text tree → IsShallow tree }
-{}
 
 /// The first byte or two of a text tell what its front is.
 pub fn fronts_tell_their_sort()

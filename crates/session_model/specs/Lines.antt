@@ -3,7 +3,7 @@ use Rattle.std.specs.Prelude.{◌≡◌, ℕ, ◌+◌, ℤ, List, [], ◌∷◌,
 use Rattle.std.specs.Option.{ok_or}
 use Rattle.req_tree.specs.Tree.{Tree}
 use Rattle.req_tree.specs.Subject.{Subject}
-use Rattle.req_grammar.specs.Requirement.{IsRequirement}
+use Rattle.short_requirements.specs.Requirement.{IsRequirement}
 use Rattle.policy_model.specs.Rules.{Kind}
 use Rattle.policy_model.specs.Outcomes.{Ask}
 use Rattle.policy_model.specs.Contents.{add, Edit}

@@ -6,7 +6,7 @@ use Rattle.req_tree.specs.Tree.{Tree}
 use Rattle.req_tree.specs.Depth.{depth_of}
 use Rattle.req_tree.specs.HashWord.{hash_word}
 use Rattle.req_tree.specs.Spellable.{IsShallow}
-use Rattle.req_grammar.specs.Requirement.{requirement, IsRequirement}
+use Rattle.short_requirements.specs.Requirement.{requirement, IsRequirement}
 
 -- where there is a tree it has one level
 abbrev IsOneLevel : Option Tree → Type 0
