@@ -1,0 +1,13 @@
+mod Fronts
+mod EscapedTexts
+mod DottedWords
+mod PlainFronts
+mod FirstBytes
+mod Said
+mod HexTexts
+mod Comments
+mod AllSaid
+mod Led
+mod DigitBytes
+mod WordHalves
+mod Only

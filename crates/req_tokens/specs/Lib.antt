@@ -1,0 +1,11 @@
+pub mod FaultText
+pub mod Tokens
+pub mod Words
+pub mod Sorts
+pub mod Reach
+pub mod Cutting
+pub mod Cuts
+pub mod Forms
+pub mod Strings
+pub mod Terminals
+pub mod Failures
