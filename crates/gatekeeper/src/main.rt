@@ -3,12 +3,14 @@
 
 mod help;
 
-use gk_io::{StdSink, StdSource};
+use gk_io::{FileShelf, StdSink, StdSource, SystemClock};
 use spctl_cli::{Status, run};
 use std::alloc::AllocError;
 use std::env::{self, Args, Env};
+use std::fs::Files;
 use std::io::{self, ErrorKind, Input, Print};
 use std::process::ExitCode;
+use std::time::Clock;
 
 fn main(rt: HostRuntime) -> ExitCode {
     let status = match help::asked(&rt) {
@@ -18,7 +20,7 @@ fn main(rt: HostRuntime) -> ExitCode {
     ExitCode::from(status.code())
 }
 
-fn by_arguments<R: Env + Input + Print + AllocGlobal>(rt: &R) -> Status {
+fn by_arguments<R: Env + Input + Print + Files + Clock + AllocGlobal>(rt: &R) -> Status {
     match env::args(rt) {
         Ok(args) => by_args(rt, args).unwrap_or(Status::OutOfMemory),
         Err(error) => by_no_words(rt, error.kind()),
@@ -26,7 +28,10 @@ fn by_arguments<R: Env + Input + Print + AllocGlobal>(rt: &R) -> Status {
 }
 
 /// The arguments, of which the first is the program's name.
-fn by_args<R: Input + Print + AllocGlobal>(rt: &R, args: Args) -> Result<Status, AllocError> {
+fn by_args<R: Input + Print + Files + Clock + AllocGlobal>(
+    rt: &R,
+    args: Args,
+) -> Result<Status, AllocError> {
     let mut all = Vec::new(rt.alloc());
     for arg in args.skip(1) {
         all.push(arg)?;
@@ -39,7 +44,7 @@ fn by_args<R: Input + Print + AllocGlobal>(rt: &R, args: Args) -> Result<Status,
 }
 
 /// Where the arguments could not be read. One that isn't text makes no command.
-fn by_no_words<R: Input + Print + AllocGlobal>(rt: &R, why: ErrorKind) -> Status {
+fn by_no_words<R: Input + Print + Files + Clock + AllocGlobal>(rt: &R, why: ErrorKind) -> Status {
     if why == ErrorKind::OutOfMemory {
         Status::OutOfMemory
     } else {
@@ -47,8 +52,17 @@ fn by_no_words<R: Input + Print + AllocGlobal>(rt: &R, why: ErrorKind) -> Status
     }
 }
 
-fn by_words<R: Input + Print + AllocGlobal>(rt: &R, words: &[&str]) -> Status {
+fn by_words<R: Input + Print + Files + Clock + AllocGlobal>(rt: &R, words: &[&str]) -> Status {
     let mut input = StdSource::new(rt.reader());
     let mut output = StdSink::new(io::writer(rt));
-    run(rt.alloc(), words, &mut input, &mut output)
+    let mut shelf = FileShelf::new(rt);
+    let mut clock = SystemClock::new(rt);
+    run(
+        rt.alloc(),
+        words,
+        &mut input,
+        &mut output,
+        &mut shelf,
+        &mut clock,
+    )
 }

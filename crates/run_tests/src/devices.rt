@@ -1,6 +1,9 @@
 //! Devices in memory.
 
-use gk_io::{CallNumbers, MemorySink, MemorySource};
+use gk_io::{
+    CallNumbers, MemoryClock, MemoryFile, MemoryShelf, MemorySink, MemorySource, Sink, Source,
+};
+use spctl_cli::{Status, run};
 use std::alloc::{AllocError, Global};
 
 pub const SESSION: [&str; 2] = [":memory:", "session"];
@@ -21,4 +24,23 @@ pub fn sink(alloc: Global, failing: &[u64]) -> Result<MemorySink, AllocError> {
 /// A source of these bytes of which these calls fail.
 pub fn source(alloc: Global, bytes: &[u8], failing: &[u64]) -> Result<MemorySource, AllocError> {
     Ok(MemorySource::new(bytes.to_vec(alloc)?, numbers(alloc, failing)?))
+}
+
+/// A clock of one moment of which these calls fail.
+pub fn clock(alloc: Global, moment: u64, failing: &[u64]) -> Result<MemoryClock, AllocError> {
+    let moments = vec![in alloc; moment]?;
+    Ok(MemoryClock::new(moments, numbers(alloc, failing)?))
+}
+
+/// A run without files, at moment 0.
+pub fn run_alone<S: Source, W: Sink>(
+    alloc: Global,
+    words: &[&str],
+    input: &mut S,
+    output: &mut W,
+) -> Result<Status, AllocError> {
+    let files: Vec<MemoryFile> = Vec::new(alloc);
+    let mut shelf = MemoryShelf::new(files, CallNumbers::new(alloc));
+    let mut clock = clock(alloc, 0, &[])?;
+    Ok(run(alloc, words, input, output, &mut shelf, &mut clock))
 }

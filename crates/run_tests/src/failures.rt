@@ -1,7 +1,7 @@
 //! Each call of source and sink fails in turn.
 
-use crate::devices::{SESSION, sink, source};
-use spctl_cli::{Status, run};
+use crate::devices::{SESSION, run_alone, sink, source};
+use spctl_cli::Status;
 use std::alloc::{AllocError, Global};
 use std::test::Fail;
 
@@ -38,7 +38,7 @@ fn is_cut(
 ) -> Result<bool, AllocError> {
     let mut input = source(alloc, CUT, reading)?;
     let mut output = sink(alloc, writing)?;
-    let ended = run(alloc, &SESSION, &mut input, &mut output);
+    let ended = run_alone(alloc, &SESSION, &mut input, &mut output)?;
     let once = input.faults() <= 1 && output.faults() <= 1;
     drop(input);
     let is = ended == end && output.written() == written && once;

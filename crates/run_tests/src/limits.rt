@@ -2,9 +2,9 @@
 
 ghost use Rattle.std.specs.Prelude.{None};
 
-use crate::devices::{SESSION, sink};
+use crate::devices::{SESSION, run_alone, sink};
 use gk_io::{CallNumbers, Failed, MemorySource, Sink, Source};
-use spctl_cli::{Status, run};
+use spctl_cli::Status;
 use std::alloc::{AllocError, Global};
 use std::test::Fail;
 
@@ -14,7 +14,7 @@ fn is_refused_alone(alloc: Global, length: usize) -> Result<bool, AllocError> {
     bytes.extend_from_slice(b"\ntick 1\n")?;
     let mut input = MemorySource::new(bytes, CallNumbers::new(alloc));
     let mut output = sink(alloc, &[])?;
-    let ended = run(alloc, &SESSION, &mut input, &mut output);
+    let ended = run_alone(alloc, &SESSION, &mut input, &mut output)?;
     drop(input);
     let is = ended == Status::Fine
         && output.written() == b"refused line 8 NotBuilt\nnow=1\n".as_slice();
@@ -72,23 +72,25 @@ impl Sink for Counted {
 }
 
 /// Whether a session of so many empty lines ends so and writes so many bytes.
-fn is_ended(alloc: Global, lines: usize, end: Status, written: usize) -> bool {
+fn is_ended(alloc: Global, lines: usize, end: Status, written: usize) -> Result<bool, AllocError> {
     let mut input = EmptyLines { left: lines };
     let mut output = Counted { bytes: 0 };
-    let ended = run(alloc, &SESSION, &mut input, &mut output);
-    ended == end && output.bytes == written
+    let ended = run_alone(alloc, &SESSION, &mut input, &mut output)?;
+    Ok(ended == end && output.bytes == written)
 }
 
 // Each reply is `refused line 8 NotBuilt`.
 #[test]
-fn a_million_lines_are_answered(rt: HostRuntime) {
-    let fine = is_ended(rt.alloc(), 1_000_000, Status::Fine, 24_000_000);
+fn a_million_lines_are_answered(rt: HostRuntime) -> Result<(), Fail> {
+    let fine = is_ended(rt.alloc(), 1_000_000, Status::Fine, 24_000_000)?;
     assert!(rt; fine);
+    Ok(())
 }
 
 // The last line is `fault SessionTooLong`.
 #[test]
-fn a_line_more_ends_the_session(rt: HostRuntime) {
-    let long = is_ended(rt.alloc(), 1_000_001, Status::SessionTooLong, 24_000_021);
+fn a_line_more_ends_the_session(rt: HostRuntime) -> Result<(), Fail> {
+    let long = is_ended(rt.alloc(), 1_000_001, Status::SessionTooLong, 24_000_021)?;
     assert!(rt; long);
+    Ok(())
 }

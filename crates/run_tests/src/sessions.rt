@@ -2,9 +2,9 @@
 
 ghost use Rattle.std.specs.Prelude.{None};
 
-use crate::devices::{SESSION, sink, source};
+use crate::devices::{SESSION, run_alone, sink, source};
 use gk_io::{Failed, MemorySource, Source};
-use spctl_cli::{Status, run};
+use spctl_cli::Status;
 use std::alloc::{AllocError, Global};
 use std::test::Fail;
 
@@ -31,9 +31,12 @@ const SESSIONS: [(&str, &[u8], &[u8]); 8] = [
 
 const USAGE: &[u8] = b"usage: gatekeeper [--facts NAME] STORE COMMAND [WORDS]\n";
 
-const OTHER_WORDS: [&[&str]; 6] = [
+const OTHER_WORDS: [&[&str]; 9] = [
     &[],
     &["session"],
+    &[":memory:"],
+    &[":memory:", ""],
+    &["", "session"],
     &[":memory:", "frob"],
     &[":store:", "session"],
     &[":memory:", "session", "now"],
@@ -50,7 +53,7 @@ fn is_run(
 ) -> Result<bool, AllocError> {
     let mut input = source(alloc, bytes, &[])?;
     let mut output = sink(alloc, &[])?;
-    let ended = run(alloc, words, &mut input, &mut output);
+    let ended = run_alone(alloc, words, &mut input, &mut output)?;
     drop(input);
     let is = ended == end && output.written() == written;
     drop(output);
@@ -99,7 +102,7 @@ fn is_answered_one_by_one(alloc: Global, bytes: &[u8], written: &[u8]) -> Result
     let bytes = source(alloc, bytes, &[])?;
     let mut input = OneByOne { bytes };
     let mut output = sink(alloc, &[])?;
-    let ended = run(alloc, &SESSION, &mut input, &mut output);
+    let ended = run_alone(alloc, &SESSION, &mut input, &mut output)?;
     drop(input);
     let is = ended == Status::Fine && output.written() == written;
     drop(output);
@@ -124,6 +127,12 @@ fn each_status_has_its_code(rt: HostRuntime) {
         Status::SessionTooLong.code(),
         Status::Usage.code(),
         Status::OutOfMemory.code(),
+        Status::Denied.code(),
+        Status::ShelfFault.code(),
+        Status::ClockFault.code(),
+        Status::FileMissing.code(),
+        Status::FileTooLong.code(),
+        Status::Refused.code(),
     ];
-    assert!(rt; codes == [0, 1, 1, 1, 2, 4]);
+    assert!(rt; codes == [0, 1, 1, 1, 2, 4, 3, 1, 1, 1, 1, 1]);
 }

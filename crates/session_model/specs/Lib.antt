@@ -5,5 +5,4 @@ pub mod Left
 pub mod Forms
 pub mod Lines
 pub mod Session
-pub mod Commands
 pub mod Laws

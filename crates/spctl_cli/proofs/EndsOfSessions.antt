@@ -9,8 +9,8 @@ use Rattle.session_model.specs.Session.{State, Answers}
 use Rattle.desk_state.specs.Stands.{Stands}
 use Rattle.desk_state.specs.declared.desk.Desk.{Desk}
 use Rattle.desk_lines.specs.Answered.{HasAnswered}
-use Rattle.spctl_cli.specs.declared.status.Status.{Status}
-use Rattle.spctl_cli.specs.declared.status.Status.TheVariants.{ReadFault, SessionTooLong}
+use Rattle.run_status.specs.declared.status.Status.{Status}
+use Rattle.run_status.specs.declared.status.Status.TheVariants.{ReadFault, SessionTooLong}
 use Rattle.spctl_cli.specs.Headline.{IsSession}
 use Rattle.spctl_cli.specs.LastLines.{read_fault_text, too_long_text, IsEndedBy}
 use Rattle.spctl_cli.specs.Ends.{TellsFault, BreaksAtFault, SessionEnds}

@@ -1,3 +1,4 @@
 mod EndsOfSessions
 mod Past
 mod UsageAlone
+mod Written

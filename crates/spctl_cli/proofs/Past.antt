@@ -6,8 +6,8 @@ use Rattle.line_reader.specs.Lines.{text_of}
 use Rattle.line_reader.specs.Limits.{IsWithin, RunsPast}
 use Rattle.policy_model.specs.History.{Opening}
 use Rattle.session_model.specs.Session.{State}
-use Rattle.spctl_cli.specs.declared.status.Status.{Status}
-use Rattle.spctl_cli.specs.declared.status.Status.TheVariants.{Fine, Usage, ReadFault, WriteFault, SessionTooLong, OutOfMemory}
+use Rattle.run_status.specs.declared.status.Status.{Status}
+use Rattle.run_status.specs.declared.status.Status.TheVariants.{Fine, Denied, Usage, ReadFault, WriteFault, ShelfFault, ClockFault, FileMissing, FileTooLong, Refused, SessionTooLong, OutOfMemory}
 use Rattle.spctl_cli.specs.Ends.{SessionEnds, UsageEnds, GavePast}
 
 -- bytes that are within the limits don't run past them
@@ -32,6 +32,12 @@ pub session_past : (o : Opening) (s : State) (left now written sent : Option (Li
     → IsSome left → status ≢ WriteFault → status ≢ OutOfMemory → ((status ≡ SessionTooLong) ↔ GavePast left now)
 session_past o s left now written sent Fine e told a b = (λ is. (cc), λ past. absurd (none_past left now e.1.bytes e.1.taken e.1.within past))
 session_past o s left now written sent Usage e told a b = absurd e
+session_past o s left now written sent Denied e told a b = absurd e
+session_past o s left now written sent ShelfFault e told a b = absurd e
+session_past o s left now written sent ClockFault e told a b = absurd e
+session_past o s left now written sent FileMissing e told a b = absurd e
+session_past o s left now written sent FileTooLong e told a b = absurd e
+session_past o s left now written sent Refused e told a b = absurd e
 session_past o s left now written sent ReadFault e told a b = (λ is. (cc), λ past. absurd (none_past left now (text_of e.stops.lines ++ e.stops.rest) e.stops.taken e.stops.why.1 past))
 session_past o s left now written sent WriteFault e told a b = absurd (a refl)
 session_past o s left now written sent SessionTooLong e told a b = (λ is. some_past left now (text_of e.stops.lines ++ e.stops.rest) told e.stops.taken e.stops.why.0, λ past. refl)
@@ -46,6 +52,12 @@ nothing_past (Some xs) past = none_past (Some xs) (Some xs) [] refl (record { li
 pub usage_past : (left now written sent : Option (List ℕ)) (status : Status) → UsageEnds left now written sent status
     → status ≢ WriteFault → status ≢ OutOfMemory → ((status ≡ SessionTooLong) ↔ GavePast left now)
 usage_past left now written sent Fine e a b = absurd e
+usage_past left now written sent Denied e a b = absurd e
+usage_past left now written sent ShelfFault e a b = absurd e
+usage_past left now written sent ClockFault e a b = absurd e
+usage_past left now written sent FileMissing e a b = absurd e
+usage_past left now written sent FileTooLong e a b = absurd e
+usage_past left now written sent Refused e a b = absurd e
 usage_past left now written sent Usage e a b = (λ is. (cc), λ past. absurd (nothing_past left (subst (GavePast left) e.unread past)))
 usage_past left now written sent ReadFault e a b = absurd e
 usage_past left now written sent WriteFault e a b = absurd (a refl)

@@ -1,8 +1,8 @@
 -- The words of the command line, without the program's name, and the program's commands as those of the definitions.
 use Rattle.std.specs.Prelude.{ℕ, List, map}
 use denote.Bor.{Bor}
-use Rattle.session_model.specs.Commands as model
-use Rattle.session_model.specs.Commands.{session}
+use Rattle.spctl_cli.specs.Commands as model
+use Rattle.spctl_cli.specs.Commands.{session}
 use Rattle.spctl_cli.specs.declared.command.Command.{Command}
 use Rattle.spctl_cli.specs.declared.command.Command.TheVariants.{Session}
 

@@ -4,12 +4,12 @@ use Rattle.std.specs.Io.KnownBytes.{Appends}
 use Rattle.gk_io.specs.Told.{AppendsFront}
 use Rattle.policy_model.specs.History.{Opening}
 use Rattle.session_model.specs.Session.{State, Answers}
-use Rattle.session_model.specs.Commands.{Command, session}
+use Rattle.spctl_cli.specs.Commands.{Command, session}
 use Rattle.line_reader.specs.Lines.{with_lf}
 use Rattle.line_reader.specs.Limits.{RunsPast}
 use Rattle.line_session.specs.Ends.{StopsBefore, BreaksOff, AtReadFault, AtLimit, AtWant}
-use Rattle.spctl_cli.specs.declared.status.Status.{Status}
-use Rattle.spctl_cli.specs.declared.status.Status.TheVariants.{Fine, Usage, ReadFault, WriteFault, SessionTooLong, OutOfMemory}
+use Rattle.run_status.specs.declared.status.Status.{Status}
+use Rattle.run_status.specs.declared.status.Status.TheVariants.{Fine, Usage, ReadFault, WriteFault, SessionTooLong, OutOfMemory}
 use Rattle.spctl_cli.specs.Headline.{IsSession}
 use Rattle.spctl_cli.specs.LastLines.{read_fault_text, too_long_text, usage_text}
 

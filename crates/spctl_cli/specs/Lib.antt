@@ -1,5 +1,5 @@
 pub mod CommandLine
+pub mod Commands
 pub mod Ends
 pub mod Headline
 pub mod LastLines
-pub mod Status

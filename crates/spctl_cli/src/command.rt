@@ -2,7 +2,7 @@
 
 ghost use Rattle.std.specs.Prelude.{◌≡◌};
 ghost use Rattle.std.specs.Option.{option_map};
-ghost use Rattle.session_model.specs.Commands as model;
+ghost use Rattle.spctl_cli.specs.Commands as model;
 ghost use Rattle.spctl_cli.specs.CommandLine.{texts, command_view};
 
 /// What the program is asked to do.
@@ -12,20 +12,22 @@ pub enum Command {
     Session,
 }
 
-/// The command of the words, which so far name a store in memory that begins empty.
+/// The command of the words, where they are one.
 pub fn command_of(words: &[&str]) -> Option<Command>
     ensures { option_map command_view result ≡ model.command_of (texts words.now) }
 {
     match words {
-        [store, command] => {
-            let in_memory = *store == ":memory:";
-            let session = *command == "session";
-            if in_memory && session {
-                Some(Command::Session)
-            } else {
-                None
-            }
-        }
+        [store, word] => on_store(store, word),
         _ => None,
+    }
+}
+
+fn on_store(store: &str, word: &str) -> Option<Command>
+    ensures { option_map command_view result ≡ model.on_store store.now word.now }
+{
+    if store == ":memory:" && word == "session" {
+        Some(Command::Session)
+    } else {
+        None
     }
 }

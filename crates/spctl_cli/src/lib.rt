@@ -4,7 +4,6 @@
 mod command;
 mod last_line;
 mod program;
-mod status;
 
 pub use program::run;
-pub use status::Status;
+pub use run_status::Status;

@@ -2,31 +2,34 @@
 
 ghost use Rattle.std.specs.Prelude.{◌≡◌, ◌≢◌, ◌⊎◌, ◌≤◌, ◌↔◌, ℕ, List, Option, Some, None, IsSome, is_some};
 ghost use Rattle.gk_io.specs.Faults.{CanRise, Rose};
+ghost use Rattle.gk_io.specs.Shelf.{KeepsFiles};
 ghost use Rattle.gk_io.specs.Told.{IsFlushed};
 ghost use Rattle.line_reader.specs.Limits.{IsWithin};
 ghost use Rattle.req_tree.specs.Facts.{no_facts};
 ghost use Rattle.policy_model.specs.History.{fresh};
 ghost use Rattle.session_model.specs.Session.{State, begun};
-ghost use Rattle.session_model.specs.Commands as model;
+ghost use Rattle.spctl_cli.specs.Commands as model;
 ghost use Rattle.spctl_cli.specs.CommandLine.{texts};
 ghost use Rattle.spctl_cli.specs.Headline.{IsSession};
 ghost use Rattle.spctl_cli.specs.Ends.{RunEnds, SessionEnds, UsageEnds, GavePast};
 
 use crate::command::{Command, command_of};
 use crate::last_line::end_with;
-use crate::status::Status;
 use desk_lines::session_lines;
 use desk_state::Desk;
-use gk_io::{Sink, Source};
+use gk_io::{Clock, Shelf, Sink, Source};
 use line_session::Ended;
+use run_status::Status;
 use std::alloc::Global;
 
 /// Does what the words of the command line say, of which the program's name is none.
-pub fn run<S: Source, W: Sink>(
+pub fn run<S: Source, W: Sink, H: Shelf, C: Clock>(
     alloc: Global,
     words: &[&str],
     input: &mut S,
     output: &mut W,
+    shelf: &mut H,
+    clock: &mut C,
 ) -> Status
     // The headline: a session that ends well wrote just the replies to the lines it read.
     ensures fine { model.command_of (texts words.now) ≡ Some model.session → result ≡ Status.Fine
@@ -68,6 +71,10 @@ pub fn run<S: Source, W: Sink>(
     ensures flushed_telling { is_some (W.flushed output.new) ≡ is_some (W.flushed output.old) }
     ensures input_later { S.faults input.old ≤ S.faults input.new }
     ensures output_later { W.faults output.old ≤ W.faults output.new }
+    ensures shelf_kept { KeepsFiles (H.files shelf.old) (H.files shelf.new) }
+    ensures shelf_later { H.faults shelf.old ≤ H.faults shelf.new }
+    ensures clock_telling { is_some (C.moments clock.new) ≡ is_some (C.moments clock.old) }
+    ensures clock_later { C.faults clock.old ≤ C.faults clock.new }
 {
     match command_of(words) {
         Some(Command::Session) => session(alloc, input, output),
@@ -101,8 +108,8 @@ fn session<S: Source, W: Sink>(alloc: Global, input: &mut S, output: &mut W) -> 
         Ended::Fine => Status::Fine,
         Ended::WriteFault => Status::WriteFault,
         Ended::OutOfMemory => Status::OutOfMemory,
-        Ended::ReadFault => end_with(output, b"fault ReadFault", Status::ReadFault),
-        Ended::TooLong => end_with(output, b"fault SessionTooLong", Status::SessionTooLong),
+        Ended::ReadFault => end_with(output, b"fault ReadFault\n", Status::ReadFault),
+        Ended::TooLong => end_with(output, b"fault SessionTooLong\n", Status::SessionTooLong),
     }
 }
 
@@ -119,7 +126,7 @@ fn usage<W: Sink>(output: &mut W) -> Status
 {
     end_with(
         output,
-        b"usage: gatekeeper [--facts NAME] STORE COMMAND [WORDS]",
+        b"usage: gatekeeper [--facts NAME] STORE COMMAND [WORDS]\n",
         Status::Usage,
     )
 }
