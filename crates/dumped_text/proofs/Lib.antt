@@ -1,0 +1,15 @@
+mod Bools
+mod OidText
+mod Chains
+mod ReadBack
+mod Parens
+mod Cutting
+mod Pieces
+mod HexTexts
+mod NumberTexts
+mod StringTexts
+mod TreeTexts
+mod TextLaws
+mod SetTexts
+mod WorkedTexts
+mod WorkedNests

@@ -1,0 +1,5 @@
+pub mod Dumped
+pub mod Said
+pub mod Sayable
+pub mod Sets
+pub mod Laws
