@@ -1,0 +1,3 @@
+mod WordLengths
+mod Digits
+mod DottedRuns
