@@ -1,0 +1,4 @@
+pub mod Keys
+pub mod Read
+pub mod Sound
+pub mod PlainReadings

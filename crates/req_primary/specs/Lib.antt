@@ -1,0 +1,6 @@
+pub mod Steps
+pub mod Tests
+pub mod Primaries
+pub mod Operands
+pub mod Keys
+pub mod Laws
