@@ -1,0 +1,9 @@
+pub mod Counts
+pub mod Bangs
+pub mod Read
+pub mod Sound
+pub mod Chains
+pub mod Outcomes
+pub mod OpenFronts
+pub mod Judged
+pub mod KeyPlaces

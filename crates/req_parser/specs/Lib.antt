@@ -1,0 +1,5 @@
+pub mod Reading
+pub mod Given
+pub mod Open
+pub mod BadKeys
+pub mod Failures
