@@ -1,0 +1,7 @@
+//! Tests of printed requirements and sets, over public calls: rows from outside the program.
+#![tactic(auto)]
+
+#[cfg(test)]
+mod rows;
+#[cfg(test)]
+mod texts;

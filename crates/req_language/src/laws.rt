@@ -1,0 +1,40 @@
+//! Laws over the definitions alone.
+
+ghost use Rattle.std.specs.Prelude.{ℕ, List};
+ghost use Rattle.req_tree.specs.Tree.{Tree};
+ghost use Rattle.req_tree.specs.TreeSet.{TreeSet};
+ghost use Rattle.req_tree.specs.Normal.{normal};
+ghost use Rattle.req_blob.specs.Spelling.{IsSpelling, IsPlain};
+ghost use Rattle.req_ops.specs.Sets.{IsSetSpelling};
+ghost use Rattle.req_ops.specs.SetEncoding.{IsPlainSet};
+ghost use Rattle.dumped_text.specs.Sets.{normal_set};
+ghost use Rattle.req_language.specs.Promise.{ComesBack, SetComesBack};
+
+use req_blob::laws::{a_blob_spells_one_tree, a_tree_has_one_plain_spelling};
+use req_ops::laws::{a_set_has_one_plain_spelling, bytes_spell_one_set};
+use req_tree::laws::{
+    normal_forms_are_spoken, normal_forms_keep_the_meaning, spoken_trees_are_normal,
+};
+
+/// The plain bytes of a normal form mean what the first bytes meant, and are those exactly where those are plain
+/// and their tree is spoken.
+pub fn normal_forms_come_back()
+    ensures { (tree : Tree) (bytes again : List ℕ) → IsSpelling tree bytes → IsPlain (normal tree) again → ComesBack bytes again }
+{
+    a_blob_spells_one_tree();
+    a_tree_has_one_plain_spelling();
+    normal_forms_are_spoken();
+    normal_forms_keep_the_meaning();
+    spoken_trees_are_normal();
+}
+
+/// The same of sets.
+pub fn normal_sets_come_back()
+    ensures { (set : TreeSet) (bytes again : List ℕ) → IsSetSpelling set bytes → IsPlainSet (normal_set set) again → SetComesBack bytes again }
+{
+    bytes_spell_one_set();
+    a_set_has_one_plain_spelling();
+    normal_forms_are_spoken();
+    normal_forms_keep_the_meaning();
+    spoken_trees_are_normal();
+}
