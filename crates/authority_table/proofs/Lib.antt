@@ -1,2 +1,4 @@
 mod OneFurther
 mod Places
+pub mod Ranked
+pub mod Copied

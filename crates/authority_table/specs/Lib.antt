@@ -4,3 +4,5 @@ pub mod ShortReq
 pub mod Rank
 pub mod Rule
 pub mod Found
+pub mod Outcome
+pub mod Snapshot

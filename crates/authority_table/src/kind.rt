@@ -13,8 +13,15 @@ pub enum Kind {
 
 impl Kind {
     ghost use Rattle.std.specs.Prelude.{◌≡◌};
+    ghost use Rattle.policy_model.specs.Rules.{same_kind};
     ghost use Rattle.policy_model.specs.Texts.{kind_text};
     ghost use Rattle.authority_table.specs.Kind.{kind_of};
+
+    pub fn is(self, other: Kind) -> bool
+        ensures { result ≡ same_kind (kind_of self) (kind_of other) }
+    {
+        self == other
+    }
 
     /// The word for it in lines: `execute`, `install` or `open`.
     pub fn word(self) -> &'static [u8]

@@ -1,6 +1,7 @@
 //! The list of all rules, in the order in which they were added.
 
-ghost use Rattle.std.specs.Prelude.{◌≡◌, ◌<◌, ◌≤◌, ◌↔◌, [], ◌∷◌, ◌++◌, length, IsTrue, OnOk, OnErr};
+ghost use Rattle.std.specs.Prelude.{◌≡◌, ◌<◌, ◌≤◌, ◌↔◌, [], ◌∷◌, ◌++◌, length, IsTrue, IfOk, OnOk, OnErr};
+ghost use Rattle.std.specs.Arc.{arc_value};
 ghost use Rattle.req_tree.specs.Facts.{no_facts};
 ghost use Rattle.req_tree.specs.Subject.{subject_of};
 ghost use Rattle.policy_model.specs.declared.limits.TheConstants.{MOST_RULES};
@@ -10,10 +11,12 @@ use crate::found::Found;
 use crate::kind::Kind;
 use crate::moment::Moment;
 use crate::rule::Rule;
+use crate::rules::Rules;
 use policy_model::limits::MOST_RULES;
 use req_tree::Subject;
 use std::alloc::{AllocError, Global};
 use std::marker::Model;
+use std::sync::Arc;
 
 /// Up to `MOST_RULES` rules.
 #[derive(Drop)]
@@ -38,7 +41,6 @@ impl Model for Table {
 }
 
 impl Table {
-    ghost use Rattle.authority_table.specs.Rule.{rows_of};
     ghost use Rattle.authority_table.specs.Found.{IsFound};
 
     pub fn new(alloc: Global) -> Table
@@ -73,6 +75,16 @@ impl Table {
         Ok(())
     }
 
+    /// The rules of a kind in the order in which they are tried: a copy that later changes of the table don't touch.
+    pub fn snapshot(&self, alloc: Global, kind: Kind) -> Result<Arc<Rules>, AllocError>
+        ensures { IfOk result (λ rules. IsSnapshot (rows_of self.now) (kind_of kind) (rows_of (arc_value rules))) }
+    {
+        let mut rules = copies(alloc, &self.rules, kind)?;
+        rules.sort_by_rank()?;
+        let rules = Arc::new(alloc, rules)?;
+        Ok(rules)
+    }
+
     /// The rule that governs an assessment of the subject, and the latent one: one look at each rule.
     pub fn find(&self, kind: Kind, subject: &Subject, at: Moment) -> Found<'_>
         ensures { IsFound (rows_of self.now) (kind_of kind) (subject_of subject.now) no_facts at result }
@@ -86,4 +98,20 @@ impl Table {
         }
         found
     }
+}
+
+ghost use Rattle.authority_table.specs.Rule.{rows_of};
+ghost use Rattle.authority_table.specs.Snapshot.{of_kind, IsSnapshot};
+
+/// Copies of the rules of a kind.
+fn copies(alloc: Global, rules: &[Rule], kind: Kind) -> Result<Rules, AllocError>
+    ensures { IfOk result (λ copies. rows_of copies ≡ of_kind (kind_of kind) (rows_of rules.now)) }
+{
+    let mut copies = Rules::new(alloc);
+    for rule in rules {
+        if rule.kind.is(kind) {
+            copies.push(rule.copied(alloc)?)?;
+        }
+    }
+    Ok(copies)
 }

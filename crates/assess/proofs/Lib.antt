@@ -1,0 +1,3 @@
+pub mod FirstByRank
+pub mod Judged
+pub mod Snapshots
