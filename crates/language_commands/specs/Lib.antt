@@ -1,0 +1,4 @@
+pub mod Compiling
+pub mod Dumping
+pub mod Refusals
+pub mod Taken
