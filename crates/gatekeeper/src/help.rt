@@ -9,12 +9,13 @@ gatekeeper decides which code may be executed, installed or opened.
 
 usage: gatekeeper [--facts NAME] STORE COMMAND [WORDS]
 
-  gatekeeper :memory: session   answers each line of standard input by a line
-  gatekeeper --help, -h         shows this text
-  gatekeeper --version, -V      shows the version
+  gatekeeper :memory: session                   answers each line of standard input by a line
+  gatekeeper STORE assess KIND NAME [CODE]      assesses the code of a signature file at the system's time
+  gatekeeper --help, -h                         shows this text
+  gatekeeper --version, -V                      shows the version
 
-So far STORE is `:memory:`, COMMAND is `session`, and --facts isn't read.
-gatekeeper(1) tells the lines and their answers.
+So far the STORE of a session is `:memory:`, the other commands don't look at it, and --facts isn't read.
+gatekeeper(1) tells the lines, their answers and the exit statuses.
 ";
 
 const VERSION: &[u8] = b"gatekeeper 0.1.0\n";

@@ -2,6 +2,8 @@
 #![tactic(auto)]
 
 #[cfg(test)]
+mod assessments;
+#[cfg(test)]
 mod devices;
 #[cfg(test)]
 mod failures;

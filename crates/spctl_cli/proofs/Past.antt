@@ -44,7 +44,7 @@ session_past o s left now written sent SessionTooLong e told a b = (λ is. some_
 session_past o s left now written sent OutOfMemory e told a b = absurd (b refl)
 
 -- what isn't read runs past no limit
-nothing_past : (left : Option (List ℕ)) → GavePast left left → ⊥
+pub nothing_past : (left : Option (List ℕ)) → GavePast left left → ⊥
 nothing_past None past = past
 nothing_past (Some xs) past = none_past (Some xs) (Some xs) [] refl (record { lines = omega arith; size = omega arith }) past
 

@@ -4,7 +4,10 @@ use Rattle.std.specs.Io.KnownBytes.{Appends}
 use Rattle.gk_io.specs.Told.{AppendsFront}
 use Rattle.policy_model.specs.History.{Opening}
 use Rattle.session_model.specs.Session.{State, Answers}
-use Rattle.spctl_cli.specs.Commands.{Command, session}
+use Rattle.gk_io.specs.Shelf.{File}
+use Rattle.spctl_cli.specs.Commands.{FileCommand, Command, session, on_files}
+use Rattle.spctl_cli.specs.CommandSays.{FilesSay}
+use Rattle.spctl_cli.specs.Conclusions.{Concludes}
 use Rattle.line_reader.specs.Lines.{with_lf}
 use Rattle.line_reader.specs.Limits.{RunsPast}
 use Rattle.line_session.specs.Ends.{StopsBefore, BreaksOff, AtReadFault, AtLimit, AtWant}
@@ -53,10 +56,17 @@ UsageEnds left now written sent WriteFault = TellsFront (with_lf usage_text) lef
 UsageEnds left now written sent OutOfMemory = Tells [] left now written sent
 UsageEnds left now written sent other = ⊥
 
--- how a run ends, by its command and its status; o and s are where its desk begins
-abbrev pub RunEnds : Opening → State → Option Command → Option (List ℕ) → Option (List ℕ) → Option (List ℕ) → Option (List ℕ) → Status → Type 0
-RunEnds o s None left now written sent status = UsageEnds left now written sent status
-RunEnds o s (Some session) left now written sent status = SessionEnds o s left now written sent status
+-- how a run ends whose command is on files: nothing was read, and what the command says was written
+pub record FilesEnd (o : Opening) (s : State) (files : Option (List File)) (moments : Option (List ℕ)) (command : FileCommand) (left now written sent : Option (List ℕ)) (status : Status) : Type 0 where
+  pub unread : now ≡ left
+  pub concludes : Concludes (FilesSay o s files moments command) written sent status
+
+-- how a run ends, by its command and its status; o and s are where its desk begins, and the shelf and the clock, where they tell, have
+-- these files and these moments to come
+abbrev pub RunEnds : Opening → State → Option (List File) → Option (List ℕ) → Option Command → Option (List ℕ) → Option (List ℕ) → Option (List ℕ) → Option (List ℕ) → Status → Type 0
+RunEnds o s files moments None left now written sent status = UsageEnds left now written sent status
+RunEnds o s files moments (Some session) left now written sent status = SessionEnds o s left now written sent status
+RunEnds o s files moments (Some (on_files command)) left now written sent status = FilesEnd o s files moments command left now written sent status
 
 -- the source, which tells its bytes, gave one past the limits of a session
 abbrev pub GavePast : Option (List ℕ) → Option (List ℕ) → Type 0

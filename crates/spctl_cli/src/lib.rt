@@ -2,7 +2,9 @@
 #![tactic(auto)]
 
 mod command;
+mod conclusion;
 mod last_line;
+mod on_files;
 mod program;
 
 pub use program::run;

@@ -1,0 +1,12 @@
+-- What each command on files says. This project's own.
+use Rattle.std.specs.Prelude.{ℕ, List, Option}
+use Rattle.gk_io.specs.Shelf.{File}
+use Rattle.policy_model.specs.History.{Opening}
+use Rattle.session_model.specs.Session.{State}
+use Rattle.run_status.specs.declared.status.Status.{Status}
+use Rattle.file_assessment.specs.Assessing.{SaysAssess}
+use Rattle.spctl_cli.specs.Commands.{FileCommand, assess}
+
+-- what a command on files says, by its status, over the files of the shelf and the moments of the clock; o and s are where its desk begins
+abbrev pub FilesSay : Opening → State → Option (List File) → Option (List ℕ) → FileCommand → Status → List ℕ → Type 0
+FilesSay o s files moments (assess kind name code) status text = SaysAssess o s.history files moments kind name code status text
