@@ -2,4 +2,8 @@
 #![tactic(auto)]
 
 #[cfg(test)]
+mod eval;
+#[cfg(test)]
 mod file;
+#[cfg(test)]
+mod numeric;
