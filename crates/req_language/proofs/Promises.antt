@@ -1,5 +1,5 @@
 -- What comes back is the plain form of the normal form.
-use Rattle.std.proofs.Common.{◌≡◌, ◌↔◌, ℕ, List, Option, None, Some, refl, sym, ap, subst, ◌∙◌}
+use Rattle.std.proofs.Common.{◌≡◌, ℕ, List, Option, None, Some, refl, ap, subst, ◌∙◌}
 use Rattle.std.specs.Prelude.{option_map}
 use Rattle.req_tree.specs.Tree.{Tree}
 use Rattle.req_tree.specs.TreeSet.{TreeSet}

@@ -1,6 +1,6 @@
 //! Laws over the definitions alone.
 
-ghost use Rattle.std.specs.Prelude.{ℕ, List};
+ghost use Rattle.std.specs.Prelude.{◌≡◌, ℕ, List};
 ghost use Rattle.req_tree.specs.Tree.{Tree};
 ghost use Rattle.req_tree.specs.TreeSet.{TreeSet};
 ghost use Rattle.req_tree.specs.Normal.{normal};
@@ -8,9 +8,14 @@ ghost use Rattle.req_blob.specs.Spelling.{IsSpelling, IsPlain};
 ghost use Rattle.req_ops.specs.Sets.{IsSetSpelling};
 ghost use Rattle.req_ops.specs.SetEncoding.{IsPlainSet};
 ghost use Rattle.dumped_text.specs.Sets.{normal_set};
+ghost use Rattle.dumped_text.specs.Dumped.{dumped};
+ghost use Rattle.dumped_text.specs.Sayable.{IsSayable};
+ghost use Rattle.req_grammar.specs.Readings.{IsRequirementText};
 ghost use Rattle.req_language.specs.Promise.{ComesBack, SetComesBack};
 
+use dumped_text::laws::{texts_are_read_as_normal_forms, texts_have_their_terminals};
 use req_blob::laws::{a_blob_spells_one_tree, a_tree_has_one_plain_spelling};
+use req_grammar::laws::{terminals_have_one_reading, texts_have_one_token_list};
 use req_ops::laws::{a_set_has_one_plain_spelling, bytes_spell_one_set};
 use req_tree::laws::{
     normal_forms_are_spoken, normal_forms_keep_the_meaning, spoken_trees_are_normal,
@@ -37,4 +42,14 @@ pub fn normal_sets_come_back()
     normal_forms_are_spoken();
     normal_forms_keep_the_meaning();
     spoken_trees_are_normal();
+}
+
+/// A printed text says the normal form of its tree, and nothing else.
+pub fn a_printed_text_says_one_normal_form()
+    ensures { (tree x : Tree) → IsSayable tree → IsRequirementText (dumped tree) x → normal tree ≡ x }
+{
+    texts_have_one_token_list();
+    terminals_have_one_reading();
+    texts_have_their_terminals();
+    texts_are_read_as_normal_forms();
 }

@@ -3,5 +3,7 @@
 
 pub mod laws;
 mod printing;
+mod through;
 
 pub use printing::{text_of, text_of_set};
+pub use through::{LanguageFault, blob_of, through_text};
