@@ -32,6 +32,35 @@ pub fn clock(alloc: Global, moment: u64, failing: &[u64]) -> Result<MemoryClock,
     Ok(MemoryClock::new(moments, numbers(alloc, failing)?))
 }
 
+/// A shelf of one file, of which these calls fail.
+pub fn shelf(
+    alloc: Global,
+    name: &str,
+    bytes: &[u8],
+    failing: &[u64],
+) -> Result<MemoryShelf, AllocError> {
+    let mut files = Vec::new(alloc);
+    files.push(MemoryFile {
+        name: String::from_str(alloc, name)?,
+        bytes: Vec::from_slice(alloc, bytes)?,
+    })?;
+    Ok(MemoryShelf::new(files, numbers(alloc, failing)?))
+}
+
+/// A run over one file, without input, at moment 0.
+pub fn run_on_file<W: Sink>(
+    alloc: Global,
+    words: &[&str],
+    name: &str,
+    bytes: &[u8],
+    output: &mut W,
+) -> Result<Status, AllocError> {
+    let mut input = source(alloc, b"", &[])?;
+    let mut files = shelf(alloc, name, bytes, &[])?;
+    let mut time = clock(alloc, 0, &[])?;
+    Ok(run(alloc, words, &mut input, output, &mut files, &mut time))
+}
+
 /// A run without files, at moment 0.
 pub fn run_alone<S: Source, W: Sink>(
     alloc: Global,

@@ -3,11 +3,13 @@ use Rattle.std.specs.Prelude.{ℕ, ◌⊎◌, List, Option, Some, None}
 use Rattle.gk_io.specs.Shelf.{File}
 use Rattle.policy_model.specs.History.{Opening}
 use Rattle.session_model.specs.Session.{State}
+use Rattle.req_grammar.specs.declared.limits.TheConstants.{MOST_TEXT_BYTES}
+use Rattle.req_blob.specs.declared.limits.TheConstants.{MOST_BYTES}
 use Rattle.file_assessment.specs.declared.limits.TheConstants.{MOST_SIGNATURE_BYTES, MOST_CODE_BYTES}
 use Rattle.run_status.specs.declared.status.Status.{Status}
 use Rattle.run_status.specs.declared.status.Status.TheVariants.{Fine, Denied, Usage, ReadFault, WriteFault, ShelfFault, ClockFault, Refused, SessionTooLong, OutOfMemory}
 use Rattle.run_status.specs.Files.{IsFile}
-use Rattle.spctl_cli.specs.Commands.{FileCommand, assess, Command, session, on_files}
+use Rattle.spctl_cli.specs.Commands.{FileCommand, compile, dump, assess, Command, session, on_files}
 use Rattle.spctl_cli.specs.CommandSays.{FilesSay}
 
 -- neither the sink, the shelf nor the clock failed, and memory didn't run out
@@ -44,5 +46,7 @@ HasFile files name limit = (bytes : List ℕ) × IsFile (Some files) name limit 
 
 -- all files of the command are there, and within its limits
 abbrev pub HasFiles : List File → FileCommand → Type 0
+HasFiles files (compile name) = HasFile files name MOST_TEXT_BYTES
+HasFiles files (dump name) = HasFile files name MOST_BYTES
 HasFiles files (assess kind name None) = HasFile files name MOST_SIGNATURE_BYTES
 HasFiles files (assess kind name (Some code)) = HasFile files name MOST_SIGNATURE_BYTES × HasFile files code MOST_CODE_BYTES

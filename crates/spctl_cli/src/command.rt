@@ -21,6 +21,14 @@ pub enum Command<'a> {
 /// What the program is asked to do with files.
 #[derive(Clone, Copy, Drop)]
 pub enum FileCommand<'a> {
+    /// Make a blob of the text of a requirement.
+    Compile {
+        name: &'a str,
+    },
+    /// Make a text of a blob.
+    Dump {
+        name: &'a str,
+    },
     /// Assess the code of a signature file, and look at a code file where one is named.
     Assess {
         kind: Kind,
@@ -35,6 +43,7 @@ pub fn command_of<'a>(words: &[&'a str]) -> Option<Command<'a>>
 {
     match words {
         [store, word] => on_store(store, word),
+        [_, word, name] => on_file(word, name),
         [_, word, kind, name] => on_kind(word, kind, name, None),
         [_, word, kind, name, code] => on_kind(word, kind, name, Some(code)),
         _ => None,
@@ -49,6 +58,17 @@ fn on_store<'a>(store: &str, word: &str) -> Option<Command<'a>>
         Some(Command::Session)
     } else {
         None
+    }
+}
+
+/// A word and the name of a file.
+fn on_file<'a>(word: &str, name: &'a str) -> Option<Command<'a>>
+    ensures { option_map command_view result ≡ model.on_file word.now name.now }
+{
+    match word {
+        "compile" => Some(Command::OnFiles(FileCommand::Compile { name })),
+        "dump" => Some(Command::OnFiles(FileCommand::Dump { name })),
+        _ => None,
     }
 }
 

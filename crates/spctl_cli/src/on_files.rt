@@ -17,6 +17,7 @@ use authority_table::Kind;
 use desk_state::Desk;
 use file_assessment::assess;
 use gk_io::{Clock, Shelf};
+use language_commands::{compile, dump_file};
 use run_status::{Said, Stop};
 use std::alloc::Global;
 
@@ -39,6 +40,8 @@ pub fn said_of_files<H: Shelf, C: Clock>(
     ensures clock_steady { result ≢ Err Stop.ClockFault → C.faults clock.new ≡ C.faults clock.old }
 {
     match command {
+        FileCommand::Compile { name } => compile(alloc, name, shelf),
+        FileCommand::Dump { name } => dump_file(alloc, name, shelf),
         FileCommand::Assess { kind, name, code } => {
             assess_afresh(alloc, kind, name, code, shelf, clock)
         }

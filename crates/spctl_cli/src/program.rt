@@ -24,6 +24,7 @@ use desk_lines::session_lines;
 use desk_state::Desk;
 use file_assessment::laws::an_assessment_has_one_status;
 use gk_io::{Clock, Shelf, Sink, Source};
+use language_commands::laws::each_work_has_one_status;
 use line_session::Ended;
 use run_status::Status;
 use std::alloc::Global;
@@ -111,6 +112,7 @@ pub fn run<S: Source, W: Sink, H: Shelf, C: Clock>(
     ensures clock_telling { is_some (C.moments clock.new) ≡ is_some (C.moments clock.old) }
     ensures clock_later { C.faults clock.old ≤ C.faults clock.new }
 {
+    each_work_has_one_status();
     an_assessment_has_one_status();
     match command_of(words) {
         Some(Command::Session) => session(alloc, input, output),
