@@ -1,14 +1,17 @@
 //! The rule that decides an assessment, and the one that would were it enabled.
 
 ghost use Rattle.std.specs.Prelude.{◌≡◌, List, [], ◌∷◌, ◌++◌, nat_lt};
-ghost use Rattle.req_tree.specs.Facts.{no_facts};
+ghost use Rattle.req_tree.specs.Facts as f;
+ghost use Rattle.req_tree.specs.Facts.{known_of};
 ghost use Rattle.req_tree.specs.Subject.{subject_of};
 ghost use Rattle.policy_model.specs.Rules as model;
+ghost use Rattle.fact_values.specs.Knowledge.{known_in};
 ghost use Rattle.authority_table.specs.Kind.{kind_of};
 
 use crate::kind::Kind;
 use crate::moment::Moment;
 use crate::rule::Rule;
+use fact_values::Facts;
 use policy_model::laws::search_goes_on;
 use req_tree::Subject;
 
@@ -26,20 +29,28 @@ impl<'a> Found<'a> {
     ghost use Rattle.authority_table.specs.Found.{IsFound};
 
     /// What a search finds that also looks at this rule.
-    pub fn with(self, rule: &'a Rule, kind: Kind, subject: &Subject, at: Moment) -> Found<'a>
-        ensures { (rows : List model.Row) → IsFound rows (kind_of kind) (subject_of subject.now) no_facts at self.entry
-            → IsFound (rows ++ row_of rule.now ∷ []) (kind_of kind) (subject_of subject.now) no_facts at result }
+    pub fn with(
+        self,
+        rule: &'a Rule,
+        kind: Kind,
+        subject: &Subject,
+        facts: Option<&Facts>,
+        at: Moment,
+    ) -> Found<'a>
+        ensures { (all : f.Facts) → known_of all (subject_of subject.now).cdhash ≡ known_in facts.entry
+            → (rows : List model.Row) → IsFound rows (kind_of kind) (subject_of subject.now) all at self.entry
+            → IsFound (rows ++ row_of rule.now ∷ []) (kind_of kind) (subject_of subject.now) all at result }
     {
         search_goes_on();
         if rule.is_enabled() {
             Found {
-                governing: first_of(self.governing, rule, kind, subject, at),
+                governing: first_of(self.governing, rule, kind, subject, facts, at),
                 latent: self.latent,
             }
         } else {
             Found {
                 governing: self.governing,
-                latent: first_of(self.latent, rule, kind, subject, at),
+                latent: first_of(self.latent, rule, kind, subject, facts, at),
             }
         }
     }
@@ -55,16 +66,17 @@ fn first_of<'a>(
     rule: &'a Rule,
     kind: Kind,
     subject: &Subject,
+    facts: Option<&Facts>,
     at: Moment,
 ) -> Option<&'a Rule>
-    ensures { (rows : List model.Row)
-        → model.IsFirstOf (model.Meets (nat_lt 0 rule.now.disabled) (kind_of kind) (subject_of subject.now) no_facts at) rows (row_found found.entry)
-        → model.IsFirstOf (model.Meets (nat_lt 0 rule.now.disabled) (kind_of kind) (subject_of subject.now) no_facts at) (rows ++ row_of rule.now ∷ []) (row_found result) }
+    ensures { (all : f.Facts) → known_of all (subject_of subject.now).cdhash ≡ known_in facts.entry → (rows : List model.Row)
+        → model.IsFirstOf (model.Meets (nat_lt 0 rule.now.disabled) (kind_of kind) (subject_of subject.now) all at) rows (row_found found.entry)
+        → model.IsFirstOf (model.Meets (nat_lt 0 rule.now.disabled) (kind_of kind) (subject_of subject.now) all at) (rows ++ row_of rule.now ∷ []) (row_found result) }
 {
     search_goes_on();
     match found {
         Some(best) if !rule.is_before(best) => found,
-        _ => if rule.applies(kind, subject, at) {
+        _ => if rule.applies(kind, subject, facts, at) {
             Some(rule)
         } else {
             found

@@ -1,14 +1,16 @@
 //! A rule of the authority table.
 
 ghost use Rattle.std.specs.Prelude.{◌≡◌, ◌↔◌, IsTrue, IfOk};
-ghost use Rattle.req_tree.specs.Facts.{no_facts};
-ghost use Rattle.req_tree.specs.Meaning.{mean};
+ghost use Rattle.req_tree.specs.Facts as f;
+ghost use Rattle.req_tree.specs.Facts.{Known, known_of};
+ghost use Rattle.req_tree.specs.Meaning.{means};
 ghost use Rattle.req_tree.specs.Subject.{subject_of};
 ghost use Rattle.req_tree.specs.Subject as plain;
 ghost use Rattle.policy_model.specs.Rules.{Applies};
 ghost use Rattle.policy_model.specs.Rules as model;
 ghost use Rattle.authority_table.specs.Kind.{kind_of};
-ghost use Rattle.authority_table.specs.ShortReq.{short_mean};
+ghost use Rattle.fact_values.specs.Knowledge.{known_in};
+ghost use Rattle.authority_table.specs.ShortReq.{short_means};
 
 use crate::kind::Kind;
 use crate::label::Label;
@@ -17,6 +19,7 @@ use crate::priority::Priority;
 use crate::rank::Rank;
 use crate::rule_id::RuleId;
 use crate::short_req::ShortReq;
+use fact_values::Facts;
 use req_tree::{Bytes, SharedReq, Subject};
 use std::alloc::{AllocError, Global};
 
@@ -43,7 +46,7 @@ pub struct Rule {
     /// The requirement as it was given.
     pub text: Bytes,
     pub label: Label,
-    pub ghost short_is: { (subject : plain.Subject) → short_mean short tree subject ≡ mean tree subject no_facts },
+    pub ghost short_is: { (subject : plain.Subject) (known : Known) → short_means short tree subject known ≡ means tree subject known },
 }
 
 impl Rule {
@@ -94,14 +97,16 @@ impl Rule {
         self.disabled == 0
     }
 
-    /// Whether the rule, be it enabled or not, is of the kind, in force and true of the subject.
-    pub fn applies(&self, kind: Kind, subject: &Subject, at: Moment) -> bool
-        ensures { IsTrue result ↔ Applies (kind_of kind) (subject_of subject.now) no_facts at (row_of self.now) }
+    /// Whether the rule, be it enabled or not, is of the kind, in force and true of the subject, of whose hash these
+    /// facts are known.
+    pub fn applies(&self, kind: Kind, subject: &Subject, facts: Option<&Facts>, at: Moment) -> bool
+        ensures { (all : f.Facts) → known_of all (subject_of subject.now).cdhash ≡ known_in facts.entry
+            → IsTrue result ↔ Applies (kind_of kind) (subject_of subject.now) all at (row_of self.now) }
     {
         let of_kind = self.kind == kind;
         let live = self.is_live(at);
         if of_kind && live {
-            self.short.holds(&self.tree, subject)
+            self.short.holds(&self.tree, subject, facts)
         } else {
             false
         }

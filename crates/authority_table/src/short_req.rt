@@ -1,12 +1,15 @@
 //! A requirement that is short enough to stand in its rule.
 
 ghost use Rattle.std.specs.Prelude.{◌≡◌};
-ghost use Rattle.req_tree.specs.Facts.{no_facts};
-ghost use Rattle.req_tree.specs.Meaning.{mean};
+ghost use Rattle.req_tree.specs.Facts.{Known};
+ghost use Rattle.req_tree.specs.Meaning.{means};
 ghost use Rattle.req_tree.specs.Subject.{subject_of};
 ghost use Rattle.req_tree.specs.Subject as plain;
-ghost use Rattle.authority_table.specs.ShortReq.{short_mean};
+ghost use Rattle.fact_values.specs.Knowledge.{known_in};
+ghost use Rattle.authority_table.specs.ShortReq.{short_means};
 
+use fact_values::Facts;
+use req_eval::eval;
 use req_tree::{Hash20, Req, SharedReq, Subject};
 
 /// What a rule's requirement asks, held in place where it is short: a search of many rules needn't follow
@@ -24,7 +27,7 @@ pub enum ShortReq {
 impl ShortReq {
     /// What the tree asks.
     pub fn of(tree: &SharedReq) -> ShortReq
-        ensures { (subject : plain.Subject) → short_mean result tree.now subject ≡ mean tree.now subject no_facts }
+        ensures { (subject : plain.Subject) (known : Known) → short_means result tree.now subject known ≡ means tree.now subject known }
     {
         match tree.req() {
             Req::Always => ShortReq::Always,
@@ -34,15 +37,15 @@ impl ShortReq {
         }
     }
 
-    /// Whether the requirement, whose tree this is, holds of the subject.
-    pub fn holds(&self, tree: &SharedReq, subject: &Subject) -> bool
-        ensures { result ≡ short_mean self.now tree.now (subject_of subject.now) }
+    /// Whether the requirement, whose tree this is, holds of the subject, of whose hash these facts are known.
+    pub fn holds(&self, tree: &SharedReq, subject: &Subject, facts: Option<&Facts>) -> bool
+        ensures { result ≡ short_means self.now tree.now (subject_of subject.now) (known_in facts.entry) }
     {
         match self {
             ShortReq::Always => true,
             ShortReq::Never => false,
             ShortReq::CdHash(hash) => is_hash(&subject.cdhash, hash),
-            ShortReq::Long => tree.req().holds_without_facts(subject),
+            ShortReq::Long => eval(tree.req(), subject, facts),
         }
     }
 }

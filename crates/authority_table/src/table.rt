@@ -2,7 +2,9 @@
 
 ghost use Rattle.std.specs.Prelude.{◌≡◌, ◌<◌, ◌≤◌, ◌↔◌, [], ◌∷◌, ◌++◌, length, IsTrue, IfOk, OnOk, OnErr};
 ghost use Rattle.std.specs.Arc.{arc_value};
-ghost use Rattle.req_tree.specs.Facts.{no_facts};
+ghost use Rattle.req_tree.specs.Facts as f;
+ghost use Rattle.req_tree.specs.Facts.{known_of};
+ghost use Rattle.fact_values.specs.Knowledge.{known_in};
 ghost use Rattle.req_tree.specs.Subject.{subject_of};
 ghost use Rattle.policy_model.specs.declared.limits.TheConstants.{MOST_RULES};
 ghost use Rattle.authority_table.specs.Kind.{kind_of};
@@ -12,6 +14,7 @@ use crate::kind::Kind;
 use crate::moment::Moment;
 use crate::rule::Rule;
 use crate::rules::Rules;
+use fact_values::Facts;
 use policy_model::limits::MOST_RULES;
 use req_tree::Subject;
 use std::alloc::{AllocError, Global};
@@ -85,16 +88,24 @@ impl Table {
         Ok(rules)
     }
 
-    /// The rule that governs an assessment of the subject, and the latent one: one look at each rule.
-    pub fn find(&self, kind: Kind, subject: &Subject, at: Moment) -> Found<'_>
-        ensures { IsFound (rows_of self.now) (kind_of kind) (subject_of subject.now) no_facts at result }
+    /// The rule that governs an assessment of the subject, of whose hash these facts are known, and the latent one:
+    /// one look at each rule.
+    pub fn find(
+        &self,
+        kind: Kind,
+        subject: &Subject,
+        facts: Option<&Facts>,
+        at: Moment,
+    ) -> Found<'_>
+        ensures { (all : f.Facts) → known_of all (subject_of subject.now).cdhash ≡ known_in facts.entry
+            → IsFound (rows_of self.now) (kind_of kind) (subject_of subject.now) all at result }
     {
         let mut found = Found {
             governing: None,
             latent: None,
         };
         for rule in &self.rules {
-            found = found.with(rule, kind, subject, at);
+            found = found.with(rule, kind, subject, facts, at);
         }
         found
     }

@@ -1,3 +1,2 @@
-mod HashOfCode
 mod NoLf
 mod OneLineMore

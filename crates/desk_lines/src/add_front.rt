@@ -2,7 +2,7 @@
 
 ghost use Rattle.std.specs.Prelude.{◌≡◌, IfOk};
 ghost use Rattle.req_tree.specs.Tree.{tree_of};
-ghost use Rattle.short_requirements.specs.Requirement.{IsRequirement};
+ghost use Rattle.req_grammar.specs.Readings.{IsRequirementText};
 ghost use Rattle.policy_model.specs.Contents.{IsRuleText};
 ghost use Rattle.session_model.specs.Forms.{key_at};
 ghost use Rattle.session_model.specs.Lines.{front_at, terms_at, adding};
@@ -15,7 +15,6 @@ use authority_table::{Kind, Label, Moment, Priority};
 use desk_state::{Content, Edit, EditKey, NewRule};
 use line_text::Bytes;
 use line_words::{Cursor, Flags, LineFault};
-use short_requirements::laws::requirements_are_shallow;
 use req_tree::{Req, SharedReq};
 use std::alloc::{AllocError, Global};
 
@@ -79,11 +78,10 @@ fn read_key(words: &mut Cursor) -> Result<EditKey, LineFault>
 impl AddFront {
     /// The edit with this requirement, given as this text.
     pub fn with_requirement(self, alloc: Global, text: &[u8], req: Req) -> Result<Edit, AllocError>
-        requires reads { IsRequirement text.now (tree_of req) }
+        requires reads { IsRequirementText text.now (tree_of req) }
         requires text_is { IsRuleText text.now }
         ensures { IfOk result (λ edit. edit_of edit ≡ adding (front_of self) text.now (tree_of req)) }
     {
-        requirements_are_shallow();
         let tree = SharedReq::new(alloc, req)?;
         let text = Bytes::copy_of(alloc, text)?;
         let Terms {

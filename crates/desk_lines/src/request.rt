@@ -109,7 +109,7 @@ fn read_add(alloc: Global, words: &mut Cursor) -> Result<Request, Unread>
 {
     let front = read_front(words)?;
     let text = read_text(words)?;
-    let req = read_requirement(text)?;
+    let req = read_requirement(alloc, text)?;
     let edit = front.with_requirement(alloc, text, req)?;
     Ok(Request::Edit(edit))
 }

@@ -18,12 +18,12 @@ use Rattle.desk_state.specs.Answer.{IsDone}
 use Rattle.desk_state.specs.Stands.{tables, moment_of, facts_of, Stands}
 
 -- one more event
-pub stands_more : TablesGoOn → MomentGoesOn → (d e : Desk) (ev : Event) → tables e ≡ tables_step ev (tables d) → moment_of e ≡ now_step ev (moment_of d) → (o : Opening) (h : List Event) → Stands d o h → Stands e o (h ++ ev ∷ [])
-stands_more tables_go moment_goes d e ev t n o h s = record {
+pub stands_more : TablesGoOn → MomentGoesOn → (d e : Desk) (ev : Event) → tables e ≡ tables_step ev (tables d) → moment_of e ≡ now_step ev (moment_of d) → facts_of e ≡ facts_of d → (o : Opening) (h : List Event) → Stands d o h → Stands e o (h ++ ev ∷ [])
+stands_more tables_go moment_goes d e ev t n f o h s = record {
   sound = s.sound;
   tables_are = t ∙ ap (tables_step ev) s.tables_are ∙ sym (tables_go o h ev);
   now_is = n ∙ ap (now_step ev) s.now_is ∙ sym (moment_goes o h ev);
-  facts_are = s.facts_are;
+  facts_are = f ∙ s.facts_are;
 }
 
 -- the verdict by the rules that were found

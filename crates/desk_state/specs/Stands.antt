@@ -1,6 +1,8 @@
 -- What a desk stands for: an opening, and what has happened since.
 use Rattle.std.specs.Prelude.{◌≡◌, ℕ, List, [], ◌∷◌, ◌++◌, Result, Ok, Err}
-use Rattle.req_tree.specs.Facts.{Facts, no_facts}
+use Rattle.std.specs.Arc.{arc_value}
+use Rattle.req_tree.specs.Facts.{Facts}
+use Rattle.code_facts.specs.Tables.{table_facts}
 use Rattle.authority_table.specs.Rule.{row_of, rows_of}
 use Rattle.policy_model.specs.Tables.{Tables}
 use Rattle.policy_model.specs.History.{Event, Opening, tables_of, now_of, HasOwnIds, HasOwnKeys}
@@ -26,9 +28,9 @@ abbrev pub kept_both : {A E : Type 0} → Result A E → Rule → Receipt → Ta
 kept_both (Ok done) rule receipt t = with_both rule receipt t
 kept_both (Err fault) rule receipt t = t
 
--- the facts that a desk knows of code: none are read yet
+-- the facts that a desk knows of code
 abbrev pub facts_of : Desk → Facts
-facts_of d = no_facts
+facts_of d = table_facts (arc_value d.facts)
 
 -- where a desk may begin: ids are its own, keys differ, and no outcome is kept yet
 pub record IsSound (o : Opening) : Type 0 where

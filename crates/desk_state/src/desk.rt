@@ -1,6 +1,6 @@
 //! The desk: its rules, its receipts and its moment.
 
-ghost use Rattle.std.specs.Prelude.{◌≡◌, ◌+◌, ◌<◌, ◌≤◌, ◌++◌, [], ◌∷◌, List, max, length, Some, None, Err, IfSome, IsSome, IsNone, OnErr, OnOk};
+ghost use Rattle.std.specs.Prelude.{◌≡◌, ◌+◌, ◌<◌, ◌≤◌, ◌++◌, [], ◌∷◌, List, max, length, Some, None, Err, IfOk, IfSome, IsSome, IsNone, OnErr, OnOk};
 ghost use Rattle.authority_table.specs.Rule.{rows_of};
 ghost use Rattle.policy_model.specs.History.{HasOwnIds};
 ghost use Rattle.desk_state.specs.Receipt.{receipts_of};
@@ -13,8 +13,12 @@ use crate::new_rule::NewRule;
 use crate::receipt::{Receipt, Receipts};
 use crate::verdict::{Origin, Verdict};
 use authority_table::{Found, Label, Moment, Rule, RuleId, Table};
+use code_facts::FactTable;
+use fact_values::Facts;
 use policy_model::laws::{history_goes_on, ids_stay_own, keys_stay_own, one_outcome};
+use req_tree::Subject;
 use std::alloc::{AllocError, Global};
+use std::sync::Arc;
 
 /// Decides which code may be executed, installed or opened, by its rules.
 #[derive(Drop)]
@@ -25,11 +29,17 @@ pub struct Desk {
     enabled: bool,
     /// The greatest moment that was handed in.
     moment: Moment,
+    /// What is known of code.
+    facts: Arc<FactTable>,
     ghost own_ids: { HasOwnIds (record { rows = rows_of table; receipts = receipts_of receipts; enabled = enabled }) },
 }
 
 impl Desk {
-    ghost use Rattle.req_tree.specs.Facts.{no_facts};
+    ghost use Rattle.std.specs.Arc.{arc_value};
+    ghost use Rattle.req_tree.specs.Facts.{known_of, no_facts};
+    ghost use Rattle.req_tree.specs.Subject.{subject_of};
+    ghost use Rattle.fact_values.specs.Knowledge.{known_in};
+    ghost use Rattle.code_facts.specs.Tables.{table_facts};
     ghost use Rattle.policy_model.specs.History.{Event, Opening, fresh, now_of, ask_answer, edit_answer};
     ghost use Rattle.policy_model.specs.History as event;
     ghost use Rattle.policy_model.specs.declared.limits.TheConstants.{MOST_RULES, MOST_RECEIPTS};
@@ -48,9 +58,9 @@ impl Desk {
     ghost use Rattle.desk_state.specs.Verdict.{verdict_of, origin_of};
     ghost use Rattle.desk_state.specs.Stands.{tables, moment_of, facts_of, kept_both, Stands};
 
-    /// A desk without rules, at moment 0, with assessments switched on.
-    pub fn fresh(alloc: Global) -> Desk
-        ensures { Stands result (fresh no_facts) [] }
+    /// A desk that knows these facts, without rules, at moment 0, with assessments switched on.
+    pub fn fresh(alloc: Global, facts: Arc<FactTable>) -> Desk
+        ensures { Stands result (fresh (table_facts (arc_value facts))) [] }
     {
         ids_stay_own();
         keys_stay_own();
@@ -59,7 +69,16 @@ impl Desk {
             receipts: Receipts::new(alloc),
             enabled: true,
             moment: Moment::zero(),
+            facts,
         }
+    }
+
+    /// A fresh desk that knows nothing of any code.
+    pub fn without_facts(alloc: Global) -> Result<Desk, AllocError>
+        ensures { IfOk result (λ desk. Stands desk (fresh no_facts) []) }
+    {
+        let facts = Arc::new(alloc, FactTable::empty(alloc))?;
+        Ok(Desk::fresh(alloc, facts))
     }
 
     /// Hands in a moment; gives the greatest one so far.
@@ -67,6 +86,7 @@ impl Desk {
         ensures moment { moment_of self.new ≡ max (moment_of self.old) at }
         ensures gives { result ≡ moment_of self.new }
         ensures tables { tables self.new ≡ tables self.old }
+        ensures facts { facts_of self.new ≡ facts_of self.old }
 
         // After any history of this desk.
         ensures stands { (o : Opening) (h : List Event) → Stands self.old o h → Stands self.new o (h ++ event.tick at ∷ []) }
@@ -96,8 +116,18 @@ impl Desk {
                 Label::holding(b"no usable signature"),
                 Origin::Unsigned,
             ),
-            Some(subject) => self.by_rules(self.table.find(ask.kind, subject, self.moment)),
+            Some(subject) => {
+                let facts = self.facts_on(subject);
+                self.by_rules(self.table.find(ask.kind, subject, facts, self.moment))
+            }
         }
+    }
+
+    /// What is known of the subject's hash.
+    fn facts_on(&self, subject: &Subject) -> Option<&Facts>
+        ensures { known_in result ≡ known_of (facts_of self.now) (subject_of subject.now).cdhash }
+    {
+        self.facts.facts_of(&subject.cdhash)
     }
 
     fn by_rules(&self, found: Found<'_>) -> Verdict
@@ -157,6 +187,7 @@ impl Desk {
     pub fn edit(&mut self, alloc: Global, edit: &Edit) -> Result<Answer, EditFault>
         ensures does { IsDone (does (tables self.old) (edit_of edit.now)) (tables self.old) (tables self.new) (given result) }
         ensures moment { moment_of self.new ≡ moment_of self.old }
+        ensures facts { facts_of self.new ≡ facts_of self.old }
 
         // It is out of memory in place of an acceptance alone.
         ensures wanting { IsNone (given result) → IsAccepted (does (tables self.old) (edit_of edit.now)).answer }
@@ -176,6 +207,7 @@ impl Desk {
     fn accept(&mut self, alloc: Global, edit: &Edit) -> Result<Answer, EditFault>
         ensures does { IsDone (at_new (refusal (edit_of edit.now).content (tables self.old)) (edit_of edit.now) (tables self.old)) (tables self.old) (tables self.new) (given result) }
         ensures moment { moment_of self.new ≡ moment_of self.old }
+        ensures facts { facts_of self.new ≡ facts_of self.old }
         ensures wanting { IsNone (given result) → IsAccepted (at_new (refusal (edit_of edit.now).content (tables self.old)) (edit_of edit.now) (tables self.old)).answer }
     {
         match self.refusal(&edit.content) {
@@ -202,6 +234,7 @@ impl Desk {
         requires accepts { refusal (add (new_row new.now)) (tables self.old) ≡ None }
         ensures does { IsDone (at_new None (edit_of edit.now) (tables self.old)) (tables self.old) (tables self.new) (given result) }
         ensures moment { moment_of self.new ≡ moment_of self.old }
+        ensures facts { facts_of self.new ≡ facts_of self.old }
     {
         let number = self.receipts.count() + 1;
         let rule = new.rule(alloc, RuleId::numbered(number))?;
@@ -227,6 +260,7 @@ impl Desk {
         requires id { rule.id ≡ length (tables self.old).receipts + 1 }
         ensures tables { tables self.new ≡ kept_both result rule receipt (tables self.old) }
         ensures moment { moment_of self.new ≡ moment_of self.old }
+        ensures facts { facts_of self.new ≡ facts_of self.old }
     {
         self.receipts.push(receipt)?;
         match self.table.push(rule) {

@@ -3,9 +3,7 @@
 ghost use Rattle.std.specs.Prelude.{◌≡◌, ◌+◌, ◌≤◌, ◌++◌, [], ◌∷◌, length, Some, IfOk};
 ghost use Rattle.line_text.specs.LineText.{line_bytes};
 ghost use Rattle.line_text.specs.declared.limits.TheConstants.{FRONT_LIMIT, LINE_ROOM};
-ghost use Rattle.std.specs.Coded.{Coded-set, coded_option};
-ghost use Rattle.req_tree.specs.TreeCode.{tree_code};
-ghost use Rattle.short_requirements.specs.Requirement.{IsRequirement, requirement};
+ghost use Rattle.req_grammar.specs.Readings.{IsRequirementText};
 ghost use Rattle.policy_model.specs.Contents.{IsRuleText};
 ghost use Rattle.policy_model.specs.Texts.{add_front, verdict_word, expiry_text, flags_text};
 
@@ -27,7 +25,7 @@ pub struct NewRule {
     pub text: Bytes,
     pub tree: SharedReq,
     pub ghost text_is: { IsRuleText text },
-    pub ghost reads: { IsRequirement text tree } by { Coded-set (coded_option tree_code) (requirement text) (Some tree) },
+    pub ghost reads: { ∥ IsRequirementText text tree ∥₁ },
 }
 
 impl NewRule {

@@ -1,5 +1,5 @@
 //! What a desk answers to edits and assessments, as it is printed.
-use crate::made::{ask, edit, new_rule, subject};
+use crate::made::{ask, edit, fresh_desk, new_rule, subject};
 use authority_table::Moment;
 use desk_state::{Answer, Content, Desk, Edit, EditFault, Verdict};
 use req_tree::LineText;
@@ -34,7 +34,7 @@ fn made(alloc: Global, desk: &mut Desk, edit: &Edit, text: &[u8]) -> bool {
 
 // a key acts once, and other contents under it are refused
 fn one_key(alloc: Global) -> Option<bool> {
-    let mut desk = Desk::fresh(alloc);
+    let mut desk = fresh_desk(alloc)?;
     let allow = edit(alloc, b"k1", true)?;
     let deny = edit(alloc, b"k1", false)?;
     let first = made(alloc, &mut desk, &allow, b"ok edit=1 rules=1");
@@ -50,7 +50,7 @@ fn one_key(alloc: Global) -> Option<bool> {
 
 // the rule that an edit added decides until it ends
 fn one_rule(alloc: Global) -> Option<bool> {
-    let mut desk = Desk::fresh(alloc);
+    let mut desk = fresh_desk(alloc)?;
     let none = prints(
         &desk.ask(&ask(subject())),
         b"rejected at=0 rule=none latent=none label=no%20matching%20rule override=none source=rules cache=off",

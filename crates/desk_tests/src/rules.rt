@@ -33,8 +33,8 @@ fn both_found(alloc: Global) -> Option<bool> {
     kept(alloc, &mut table, 2, 0)?;
     kept(alloc, &mut table, 3, 0)?;
     let subject = subject()?;
-    let found = table.find(Kind::Execute, &subject, Moment::zero());
-    let other = table.find(Kind::Install, &subject, Moment::zero());
+    let found = table.find(Kind::Execute, &subject, None, Moment::zero());
+    let other = table.find(Kind::Install, &subject, None, Moment::zero());
     Some(
         table.count() == 3
             && is_found(found.governing, 2)

@@ -1,9 +1,11 @@
--- Worked sessions, computed by the definitions alone: lines, and the replies that were worked out by hand.
+-- Worked sessions, computed by the definitions alone: lines, and the replies that were worked out by hand. What the
+-- texts of requirements read as is handed in: `req_grammar` has the rows of texts.
 use Rattle.std.specs.Prelude.{◌≡◌, ℕ, ℤ, pos, neg_ℤ, List, [], ◌∷◌, ◌++◌, replicate, refl, codes, Option, Some, None, Err}
 use Rattle.std.specs.Fmt.{digits}
 use Rattle.hex.specs.Hex.{decode_pairs}
 use Rattle.req_tree.specs.Facts.{no_facts}
 use Rattle.req_tree.specs.Tree.{always, cd_hash}
+use Rattle.req_grammar.specs.Readings.{IsRequirementText}
 use Rattle.policy_model.specs.Texts.{places, add_front, content_text}
 use Rattle.policy_model.specs.History.{fresh}
 use Rattle.policy_model.specs.ReplyTexts.{verdict_text}
@@ -25,51 +27,51 @@ ones = replicate 40 49
 abbrev assess_line : List ℕ
 assess_line = codes "assess execute " ++ ones ++ codes " com.example.app 0"
 
-one_rule : Answers
+one_rule : IsRequirementText (codes "always") always → Answers
     (codes "tick 100" ∷ codes "add k1 execute allow 0 never - - always" ∷ assess_line ∷ [])
     (codes "now=100" ∷ codes "ok edit=1 rules=1"
     ∷ codes "accepted at=100 rule=1 latent=none label=- override=none source=rules cache=off" ∷ [])
 unfolding digits decode_pairs places add_front content_text verdict_text
-one_rule = (_, (_, _, refl, (refl, refl), (_, _, (Some always, refl, refl), (refl, refl), (_, _, refl, (refl, refl), refl))))
+one_rule says = (_, (_, _, refl, (refl, refl), (_, _, (Some always, says, refl), (refl, refl), (_, _, refl, (refl, refl), refl))))
 
 -- of two rules of one priority the older decides
-tie : Answers
+tie : IsRequirementText (codes "always") always → Answers
     (codes "add a execute deny 5 never - - always" ∷ codes "add b execute allow 5 never - - always" ∷ assess_line ∷ [])
     (codes "ok edit=1 rules=1" ∷ codes "ok edit=2 rules=1"
     ∷ codes "rejected at=0 rule=1 latent=none label=- override=none source=rules cache=off" ∷ [])
 unfolding digits decode_pairs places add_front content_text verdict_text
-tie = (_, (_, _, (Some always, refl, refl), (refl, refl), (_, _, (Some always, refl, refl), (refl, refl), (_, _, refl, (refl, refl), refl))))
+tie says = (_, (_, _, (Some always, says, refl), (refl, refl), (_, _, (Some always, says, refl), (refl, refl), (_, _, refl, (refl, refl), refl))))
 
 -- a line of no form, a moment that doesn't step back, and a rule at whose end nothing governs
-expired : Answers
+expired : IsRequirementText (codes "cdhash H" ++ 34 ∷ ones ++ 34 ∷ []) (cd_hash (replicate 20 17)) → Answers
     (codes "status" ∷ (codes "add a execute allow 0 100 - - cdhash H" ++ 34 ∷ ones ++ 34 ∷ []) ∷ codes "tick 100" ∷ codes "tick 7" ∷ assess_line ∷ [])
     (codes "refused line 8 NotBuilt" ∷ codes "ok edit=1 rules=1" ∷ codes "now=100" ∷ codes "now=100"
     ∷ codes "rejected at=100 rule=none latent=none label=no%20matching%20rule override=none source=rules cache=off" ∷ [])
 unfolding digits decode_pairs places add_front content_text verdict_text
-expired = (_, (_, _, refl, (refl, refl), (_, _, (Some (cd_hash (replicate 20 17)), refl, refl), (refl, refl), (_, _, refl, (refl, refl), (_, _, refl, (refl, refl), (_, _, refl, (refl, refl), refl))))))
+expired says = (_, (_, _, refl, (refl, refl), (_, _, (Some (cd_hash (replicate 20 17)), says, refl), (refl, refl), (_, _, refl, (refl, refl), (_, _, refl, (refl, refl), (_, _, refl, (refl, refl), refl))))))
 
 -- a key acts once
-repeats : Answers
+repeats : IsRequirementText (codes "always") always → Answers
     (codes "add k1 execute allow 0 never - - always" ∷ codes "add k1 execute allow 0 never - - always" ∷ codes "add k1 execute deny 0 never - - always" ∷ [])
     (codes "ok edit=1 rules=1" ∷ codes "repeated edit=1 rules=1" ∷ codes "refused edit 12 KeyReused edit=1 rules=1" ∷ [])
 unfolding digits decode_pairs places add_front content_text verdict_text
-repeats = (_, (_, _, (Some always, refl, refl), (refl, refl), (_, _, (Some always, refl, refl), (refl, refl), (_, _, (Some always, refl, refl), (refl, refl), refl))))
+repeats says = (_, (_, _, (Some always, says, refl), (refl, refl), (_, _, (Some always, says, refl), (refl, refl), (_, _, (Some always, says, refl), (refl, refl), refl))))
 
 -- a label with a space, both flags, and a fraction in the priority, which decides
-labelled : Answers
+labelled : IsRequirementText (codes "always") always → Answers
     (codes "add a execute deny 0.25 never Old%20name - always" ∷ codes "add b execute allow 0.3 never New%20name default+inhibit always" ∷ assess_line ∷ [])
     (codes "ok edit=1 rules=1" ∷ codes "ok edit=2 rules=1"
     ∷ codes "accepted at=0 rule=2 latent=none label=New%20name override=none source=rules cache=off" ∷ [])
 unfolding digits decode_pairs places add_front content_text verdict_text
-labelled = (_, (_, _, (Some always, refl, refl), (refl, refl), (_, _, (Some always, refl, refl), (refl, refl), (_, _, refl, (refl, refl), refl))))
+labelled says = (_, (_, _, (Some always, says, refl), (refl, refl), (_, _, (Some always, says, refl), (refl, refl), (_, _, refl, (refl, refl), refl))))
 
 -- unsigned code meets no rule
-unsigned : Answers
+unsigned : IsRequirementText (codes "always") always → Answers
     (codes "add a execute allow 0 never - - always" ∷ codes "assess execute unsigned" ∷ [])
     (codes "ok edit=1 rules=1"
     ∷ codes "rejected at=0 rule=none latent=none label=no%20usable%20signature override=none source=unsigned cache=none" ∷ [])
 unfolding digits decode_pairs places add_front content_text verdict_text
-unsigned = (_, (_, _, (Some always, refl, refl), (refl, refl), (_, _, refl, (refl, refl), refl)))
+unsigned says = (_, (_, _, (Some always, says, refl), (refl, refl), (_, _, refl, (refl, refl), refl)))
 
 no_lines : Answers [] []
 no_lines = (_, refl)

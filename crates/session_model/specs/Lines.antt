@@ -3,7 +3,7 @@ use Rattle.std.specs.Prelude.{◌≡◌, ℕ, ◌+◌, ℤ, List, [], ◌∷◌,
 use Rattle.std.specs.Option.{ok_or}
 use Rattle.req_tree.specs.Tree.{Tree}
 use Rattle.req_tree.specs.Subject.{Subject}
-use Rattle.short_requirements.specs.Requirement.{IsRequirement}
+use Rattle.req_grammar.specs.Readings.{IsRequirementText}
 use Rattle.policy_model.specs.Rules.{Kind}
 use Rattle.policy_model.specs.Outcomes.{Ask}
 use Rattle.policy_model.specs.Contents.{add, Edit}
@@ -172,8 +172,8 @@ lined line = if nat_le (length line) LINE_LIMIT then lined_at (all_of line) else
 
 -- a text reads as this requirement, or as none
 abbrev pub ReadsAs : List ℕ → Option Tree → Type 0
-ReadsAs text (Some tree) = IsRequirement text tree
-ReadsAs text None = (tree : Tree) → IsRequirement text tree → ⊥
+ReadsAs text (Some tree) = IsRequirementText text tree
+ReadsAs text None = (tree : Tree) → IsRequirementText text tree → ⊥
 
 -- the edit of a front whose text reads as a requirement, or the fault of one that reads as none
 abbrev pub added : Front → List ℕ → Option Tree → Result Request LineFault

@@ -1,9 +1,11 @@
 -- From how the session of a desk ends to how a run ends.
-use Rattle.std.proofs.Common.{ℕ, List, Option, inl, inr, sym, subst}
-use Rattle.std.specs.Io.KnownBytes.{Appends}
+use Rattle.std.proofs.Common.{ℕ, List, [], Option, None, Some, inl, inr, refl, sym, subst, arith}
+use Rattle.std.proofs.lemmas.List.{append-nil}
+use Rattle.std.proofs.lemmas.List.Elements.{All-nil}
+use Rattle.std.specs.Io.KnownBytes.{Appends, Consumes}
 use Rattle.gk_io.specs.Told.{AppendsFront}
-use Rattle.line_reader.specs.Lines.{with_lf}
-use Rattle.line_session.specs.Ends.{EndsFine, StopsBefore, BreaksOff, AtReadFault, AtLimit}
+use Rattle.line_reader.specs.Lines.{with_lf, HasNoLf}
+use Rattle.line_session.specs.Ends.{EndsFine, StopsBefore, BreaksOff, AtReadFault, AtLimit, AtWant}
 use Rattle.policy_model.specs.History.{Opening}
 use Rattle.session_model.specs.Session.{State, Answers}
 use Rattle.desk_state.specs.Stands.{Stands}
@@ -14,6 +16,14 @@ use Rattle.run_status.specs.declared.status.Status.TheVariants.{ReadFault, Sessi
 use Rattle.spctl_cli.specs.Headline.{IsSession}
 use Rattle.spctl_cli.specs.LastLines.{read_fault_text, too_long_text, IsEndedBy}
 use Rattle.spctl_cli.specs.Ends.{TellsFault, BreaksAtFault, SessionEnds}
+
+consumes_nothing : (left : Option (List ℕ)) → Consumes left left []
+consumes_nothing None = tt
+consumes_nothing (Some bytes) = refl
+
+appends_nothing : (written : Option (List ℕ)) → Appends written written []
+appends_nothing None = tt
+appends_nothing (Some bytes) = sym (append-nil bytes)
 
 -- the replies of a desk that stood for the state s
 answers : (o : Opening) (s : State) (start desk : Desk) (lines replies : List (List ℕ)) → Stands start o s.history → HasAnswered start desk lines replies → Answers o s lines replies
@@ -101,3 +111,17 @@ too_long_ends o s start desk stands left now written mid sent ended e (inl whole
     subst (SessionEnds o s left now written sent) (sym whole.0) (session_tells AtLimit too_long_text o s start desk stands left now written mid sent e whole.1)
 too_long_ends o s start desk stands left now written mid sent ended e (inr front) =
     subst (SessionEnds o s left now written sent) (sym front.0) (inr (inr (session_cut AtLimit too_long_text o s start desk stands left now written mid sent e front.1)))
+
+-- where no desk was made nothing was read, answered or written
+pub nothing_yet : (o : Opening) (s : State) (left written : Option (List ℕ)) → StopsBefore AtWant (Answers o s) left left written written
+nothing_yet o s left written = record {
+  lines = [];
+  rest = [];
+  replies = [];
+  taken = consumes_nothing left;
+  whole = All-nil HasNoLf;
+  within = record { lines = omega arith; size = omega arith };
+  why = tt;
+  put = appends_nothing written;
+  answered = (s, refl);
+}

@@ -68,7 +68,9 @@ fn assess_afresh<H: Shelf, C: Clock>(
     ensures clock_cause { result ≡ Err Stop.ClockFault → Rose (C.faults clock.old) (C.faults clock.new) }
     ensures clock_steady { result ≢ Err Stop.ClockFault → C.faults clock.new ≡ C.faults clock.old }
 {
-    let mut desk = Desk::fresh(alloc);
+    let Ok(mut desk) = Desk::without_facts(alloc) else {
+        return Err(Stop::OutOfMemory);
+    };
     let said = assess(alloc, &mut desk, kind, name, code, shelf, clock);
     drop(desk);
     said

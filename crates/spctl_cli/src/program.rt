@@ -140,7 +140,9 @@ fn session<S: Source, W: Sink>(alloc: Global, input: &mut S, output: &mut W) -> 
     ensures input_later { S.faults input.old ≤ S.faults input.new }
     ensures output_later { W.faults output.old ≤ W.faults output.new }
 {
-    let mut desk = Desk::fresh(alloc);
+    let Ok(mut desk) = Desk::without_facts(alloc) else {
+        return Status::OutOfMemory;
+    };
     let ended = session_lines(alloc, &mut desk, input, output);
     drop(desk);
     match ended {

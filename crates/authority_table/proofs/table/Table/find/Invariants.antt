@@ -1,10 +1,14 @@
-use Rattle.std.specs.Prelude.{take}
-use Rattle.req_tree.specs.Facts.{no_facts}
+use Rattle.std.specs.Prelude.{◌≡◌, take}
+use Rattle.req_tree.specs.Facts as f
+use Rattle.req_tree.specs.Facts.{known_of}
 use Rattle.req_tree.specs.Subject.{subject_of}
+use Rattle.fact_values.specs.Knowledge.{known_in}
 use Rattle.authority_table.specs.Kind.{kind_of}
 use Rattle.authority_table.specs.Rule.{rows_of}
 use Rattle.authority_table.specs.Found.{IsFound}
 use Rattle.authority_table.proofs.table.Table.find.Given as goal
 
 abbrev pub invariant-loop-rule : goal.invariant-loop-rule
-invariant-loop-rule l = IsFound (rows_of (take l.rule-index l.rule-items)) (kind_of l.kind) (subject_of l.subject) no_facts l.at l.found
+invariant-loop-rule l =
+    (all : f.Facts) → known_of all (subject_of l.subject).cdhash ≡ known_in l.facts
+    → IsFound (rows_of (take l.rule-index l.rule-items)) (kind_of l.kind) (subject_of l.subject) all l.at l.found

@@ -1,22 +1,23 @@
-use Rattle.std.proofs.Common.{refl, ap, ◌∙◌}
+use Rattle.std.proofs.Common.{refl, sym, ap, ◌∙◌}
 use Rattle.std.specs.Prelude.{option_map}
 use Rattle.req_tree.specs.Subject.{subject_of}
 use Rattle.policy_model.specs.History.{ask}
 use Rattle.desk_state.specs.Ask.{ask_of}
+use Rattle.desk_state.specs.Stands.{facts_of}
 use Rattle.desk_state.proofs.GoesOn.{stands_more, verdict_found, standing_answer}
 use Rattle.desk_state.proofs.desk.Desk.ask.Goals as goal
 
 pub returns-in-None-clause-stands : goal.returns-in-None-clause-stands
-returns-in-None-clause-stands c = stands_more c.history_goes_on.ensures.tables c.history_goes_on.ensures.moment _ _ (ask (ask_of c.args.ask.now)) refl refl
+returns-in-None-clause-stands c = stands_more c.history_goes_on.ensures.tables c.history_goes_on.ensures.moment _ _ (ask (ask_of c.args.ask.now)) refl refl refl
 
 pub returns-in-Some-clause-verdict : goal.returns-in-Some-clause-verdict
 returns-in-Some-clause-verdict c =
-    verdict_found c.one_outcome.ensures.outcome c.args.self.now (ask_of c.args.ask.now) (subject_of c.in-Some.subject) c.find.result _ c.args.self.now.own_ids (ap (option_map subject_of) c.in-Some.is) c.find.ensures c.by_rules.ensures.verdict
+    verdict_found c.one_outcome.ensures.outcome c.args.self.now (ask_of c.args.ask.now) (subject_of c.in-Some.subject) c.find.result _ c.args.self.now.own_ids (ap (option_map subject_of) c.in-Some.is) (c.find.ensures (facts_of c.args.self.now) (sym c.facts_on-facts.ensures)) c.by_rules.ensures.verdict
 
 pub returns-in-Some-clause-legal : goal.returns-in-Some-clause-legal
 returns-in-Some-clause-legal c = λ o h s.
-    verdict_found c.one_outcome.ensures.outcome c.args.self.now (ask_of c.args.ask.now) (subject_of c.in-Some.subject) c.find.result _ c.args.self.now.own_ids (ap (option_map subject_of) c.in-Some.is) c.find.ensures c.by_rules.ensures.verdict
+    verdict_found c.one_outcome.ensures.outcome c.args.self.now (ask_of c.args.ask.now) (subject_of c.in-Some.subject) c.find.result _ c.args.self.now.own_ids (ap (option_map subject_of) c.in-Some.is) (c.find.ensures (facts_of c.args.self.now) (sym c.facts_on-facts.ensures)) c.by_rules.ensures.verdict
     ∙ standing_answer c.args.self.now (ask_of c.args.ask.now) o h s
 
 pub returns-in-Some-clause-stands : goal.returns-in-Some-clause-stands
-returns-in-Some-clause-stands c = stands_more c.history_goes_on.ensures.tables c.history_goes_on.ensures.moment _ _ (ask (ask_of c.args.ask.now)) refl refl
+returns-in-Some-clause-stands c = stands_more c.history_goes_on.ensures.tables c.history_goes_on.ensures.moment _ _ (ask (ask_of c.args.ask.now)) refl refl refl

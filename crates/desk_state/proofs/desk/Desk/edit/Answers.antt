@@ -7,8 +7,8 @@ use Rattle.desk_state.proofs.desk.Desk.edit.Goals as goal
 
 pub returns-in-Some-clause-stands : goal.returns-in-Some-clause-stands
 returns-in-Some-clause-stands c = λ o h some.
-    stands_more c.history_goes_on.ensures.tables c.history_goes_on.ensures.moment _ _ (edit (edit_of c.args.edit.now)) (kept_same (tables c.args.self.now) (edit_of c.args.edit.now) _ c.in-Some.ensures) refl o h
+    stands_more c.history_goes_on.ensures.tables c.history_goes_on.ensures.moment _ _ (edit (edit_of c.args.edit.now)) (kept_same (tables c.args.self.now) (edit_of c.args.edit.now) _ c.in-Some.ensures) refl refl o h
 
 pub returns-in-None-clause-stands : goal.returns-in-None-clause-stands
 returns-in-None-clause-stands c = λ o h some.
-    stands_more c.history_goes_on.ensures.tables c.history_goes_on.ensures.moment _ _ (edit (edit_of c.args.edit.now)) (done_tables (tables c.args.self.now) (edit_of c.args.edit.now) _ _ c.in-None.ensures c.accept.ensures.does some) c.accept.ensures.moment o h
+    stands_more c.history_goes_on.ensures.tables c.history_goes_on.ensures.moment _ _ (edit (edit_of c.args.edit.now)) (done_tables (tables c.args.self.now) (edit_of c.args.edit.now) _ _ c.in-None.ensures c.accept.ensures.does some) c.accept.ensures.moment c.accept.ensures.facts o h

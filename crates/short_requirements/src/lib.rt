@@ -1,4 +1,0 @@
-//! The requirements that rules are read with: definitions, and a law over them.
-#![tactic(auto)]
-
-pub mod laws;
