@@ -1,5 +1,7 @@
 //! Rows of a table: what is wanted, a mark, and a text.
 
+use std::alloc::Global;
+
 /// What stands before the first byte of this kind, and what stands behind it.
 pub fn parts(row: &[u8], mark: u8) -> (&[u8], &[u8]) {
     for (at, byte) in row.iter().enumerate() {
@@ -8,4 +10,12 @@ pub fn parts(row: &[u8], mark: u8) -> (&[u8], &[u8]) {
         }
     }
     (row, b"")
+}
+
+/// The bytes that a text has in hexadecimal; `-` has none.
+pub fn bytes_of(alloc: Global, text: &[u8]) -> Option<Vec<u8>> {
+    if text == b"-".as_slice() {
+        return Some(Vec::new(alloc));
+    }
+    hex::decode(alloc, text).ok()
 }

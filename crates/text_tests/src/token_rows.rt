@@ -3,7 +3,7 @@
 ghost use Rattle.std.specs.Prelude.{◌≡◌, length};
 
 use crate::rows::parts;
-use req_tokens::{Token, TokenKind, tokens};
+use req_parser::{Token, TokenKind, tokens};
 use req_tree::LineText;
 use std::alloc::Global;
 use std::test::Fail;
