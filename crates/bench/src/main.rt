@@ -6,25 +6,29 @@ mod lock;
 mod mutex;
 mod oids;
 mod opcodes;
+mod pages;
 mod plan;
 mod requirements;
+mod signed;
 mod super_blobs;
 mod turns;
 
 use std::{env, io};
 
-/// The words are `blobs`, `opcodes` or `turns`, and what these take; or `each`, and the files that `opcodes` reads.
+/// The words are `blobs`, `opcodes`, `pages` or `turns`, and what these take; or `each`, and the files that `opcodes` reads.
 fn main(rt: HostRuntime) -> io::Result<()> {
     let part = env::args(&rt)?.nth(1);
     match part.as_ref().map(|word| word.as_str()) {
         Some("blobs") => blobs::measure(&rt),
         Some("opcodes") => opcodes::measure(&rt),
+        Some("pages") => pages::measure(&rt),
         Some("turns") => turns::measure(&rt, rt.alloc()),
         Some("each") => {
             blobs::measure(&rt)?;
             opcodes::measure(&rt)?;
+            pages::measure(&rt)?;
             turns::measure(&rt, rt.alloc())
         }
-        _ => println!(rt; "usage: bench blobs|opcodes|turns|each [TIMES] [time] [FILE ..]"),
+        _ => println!(rt; "usage: bench blobs|opcodes|pages|turns|each [TIMES] [time] [FILE ..]"),
     }
 }
