@@ -1,11 +1,12 @@
 -- What `compile` says of a text. This project's own.
-use Rattle.std.specs.Prelude.{◌≡◌, ℕ, ◌<◌, ◌≤◌, ◌⊎◌, List, length}
+use Rattle.std.specs.Prelude.{◌≡◌, ◌≢◌, ℕ, ◌<◌, ◌≤◌, ◌⊎◌, List, length}
 use Rattle.req_tree.specs.Tree.{Tree}
 use Rattle.req_blob.specs.Spelling.{plain_blob}
 use Rattle.req_blob.specs.declared.limits.TheConstants.{MOST_BYTES}
 use Rattle.req_blob.specs.declared.fault.OpsFault.TheVariants.{TooLong}
 use Rattle.req_grammar.specs.Readings.{IsRequirementText}
 use Rattle.req_tokens.specs.declared.fault.TextFault.{TextFault}
+use Rattle.req_tokens.specs.declared.fault.TextFault.TheVariants.{OutOfMemory}
 use Rattle.req_parser.specs.Failures.{FailsText}
 use Rattle.run_status.specs.declared.status.Status.{Status}
 use Rattle.language_commands.specs.Taken.{TakenOrRefused}
@@ -26,10 +27,11 @@ pub record SaysOfText (Says : Tree → List ℕ → Type 0) (text said : List �
   pub only : (other : Tree) → IsRequirementText text other → other ≡ tree
   pub says : Says tree said
 
--- the text is no requirement, and the line tells the first check that fails
+-- the text is no requirement, and the line tells the first check that fails; that memory runs out is none
 pub record RefusesText (text said : List ℕ) : Type 0 where
   pub none : (tree : Tree) → IsRequirementText text tree → ⊥
   pub fault : TextFault
+  pub known : fault ≢ OutOfMemory
   pub fails : FailsText text fault
   pub line : said ≡ text_refusal fault
 

@@ -17,5 +17,5 @@ pub returns-in-Err-clause-says : goal.returns-in-Err-clause-says
 returns-in-Err-clause-says c =
     let text = c.args.text.now in
     refusal_of (SaysOfText IsBlob text) (RefusesCompile text) (text_refusal c.in-Err.fault) c.refuse_text.result
-    (λ said known line. inl (record { none = λ tree is. known (c.in-Err.ensures.only tree is); fault = c.in-Err.fault; fails = c.in-Err.ensures.exact; line = line }))
+    (λ said known line. inl (record { none = λ tree is. known (c.in-Err.ensures.only tree is); fault = c.in-Err.fault; known = known; fails = c.in-Err.ensures.exact; line = line }))
     c.refuse_text.ensures.known c.refuse_text.ensures.status c.refuse_text.ensures.text
