@@ -28,8 +28,10 @@ abbrev pub reach : End → List ℕ → ℕ
 reach end [] = 0
 reach end (b ∷ rest) = if ends end b rest then 0 else suc (reach end rest)
 
+-- the front of a text, up to the byte that ends it
 abbrev pub before : End → List ℕ → List ℕ
 before end text = take (reach end text) text
 
+-- what is left of a text, from the byte that ends its front
 abbrev pub after : End → List ℕ → List ℕ
 after end text = drop (reach end text) text

@@ -7,6 +7,7 @@ use Rattle.req_grammar.specs.Sorts as g
 use Rattle.req_tokens.specs.declared.sort.Sort.{Sort}
 use Rattle.req_tokens.specs.declared.sort.Sort.TheVariants.{Hash, Hex, Integer, Word, Quoted, Symbol, Blank, Block, Line}
 
+-- the definitions' sort for the program's
 abbrev pub plain_sort : Sort → g.Sort
 plain_sort Hash = g.hash
 plain_sort Hex = g.hex

@@ -9,6 +9,7 @@ use Rattle.req_tokens.specs.Strings.{str_value}
 use Rattle.req_tokens.specs.declared.terminal.Terminal.{Terminal}
 use Rattle.req_tokens.specs.declared.terminal.Terminal.TheVariants.{Sign, Word, Str, Hash, Int}
 
+-- the definitions' terminal for the program's
 abbrev pub plain : Terminal → g.Terminal
 plain (Sign sign) = g.sign (plain_sign sign)
 plain (Word word) = g.word (plain_word word)
@@ -16,6 +17,7 @@ plain (Str string) = g.str (str_value string)
 plain (Hash hash) = g.hash hash.bytes
 plain (Int number) = g.int number
 
+-- the definitions' terminals for the program's, in order
 abbrev pub plains : List Terminal → List g.Terminal
 plains terminals = map plain terminals
 
@@ -32,6 +34,7 @@ is_kind k.hex text = is_hex text
 is_kind k.integer text = is_integer text
 is_kind other text = true
 
+-- what is_kind asks, where there is a kind; of what is dropped nothing needs to be known
 abbrev pub is_kind_in : Option Kind → List ℕ → Bool
 is_kind_in None text = true
 is_kind_in (Some kind) text = is_kind kind text

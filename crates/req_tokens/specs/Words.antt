@@ -7,6 +7,7 @@ use Rattle.req_tokens.specs.declared.word.Sign.TheVariants as s
 use Rattle.req_tokens.specs.declared.word.Word.{Word}
 use Rattle.req_tokens.specs.declared.word.Word.TheVariants as r
 
+-- the definitions' symbol for the program's
 abbrev pub plain_sign : Sign → w.Sign
 plain_sign s.LeftParen = w.left_paren
 plain_sign s.RightParen = w.right_paren
@@ -23,6 +24,7 @@ plain_sign s.Tilde = w.tilde
 plain_sign s.Star = w.star
 plain_sign s.Dash = w.dash
 
+-- the definitions' reserved word for the program's
 abbrev pub plain_word : Word → w.Word
 plain_word r.Always = w.always
 plain_word r.True = w.true
@@ -57,5 +59,6 @@ plain_word r.Plugin = w.plugin
 abbrev pub early : List (List ℕ × w.Word)
 early = take 14 reserved
 
+-- the second half: the reserved words after the first fourteen
 abbrev pub late : List (List ℕ × w.Word)
 late = drop 14 reserved
