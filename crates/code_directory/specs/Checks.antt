@@ -30,6 +30,7 @@ checks part whole =
     ∷ (not (has_identifier whole), BadIdentifier part)
     ∷ []
 
+-- what is wrong with a directory as a blob, or else the first check of it that fails
 abbrev pub unless_blob : ℕ → List ℕ → Option BlobFault → Option CodeFault
 unless_blob part whole (Some fault) = Some (Directory part fault)
 unless_blob part whole None = first_failing (checks part whole)

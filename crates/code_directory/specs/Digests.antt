@@ -9,9 +9,11 @@ use Rattle.sha2.specs.Sha512.{sha384}
 abbrev pub hash_sizes : List (ℕ × ℕ)
 hash_sizes = (1, 20) ∷ (2, 32) ∷ (3, 20) ∷ (4, 48) ∷ []
 
+-- whether a type of digests is one of these
 abbrev pub is_hash_type : ℕ → Bool
 is_hash_type kind = list_any (λ (line : ℕ × ℕ). line.0 == kind) hash_sizes
 
+-- whether the digests of a type have this size
 abbrev pub is_hash_size : ℕ → ℕ → Bool
 is_hash_size kind size = list_any (λ (line : ℕ × ℕ). (line.0 == kind) && (line.1 == size)) hash_sizes
 

@@ -11,30 +11,39 @@ use Rattle.code_directory.specs.declared.layout.TheConstants.{FIRST_VERSION, LAS
 abbrev pub version : List ℕ → ℕ
 version whole = number_at 8 whole
 
+-- where the digest of the first page begins
 abbrev pub hash_offset : List ℕ → ℕ
 hash_offset whole = number_at 16 whole
 
+-- where the identifier begins
 abbrev pub identifier_offset : List ℕ → ℕ
 identifier_offset whole = number_at 20 whole
 
+-- how many slots of parts stand before the hash offset
 abbrev pub special_slots : List ℕ → ℕ
 special_slots whole = number_at 24 whole
 
+-- how many slots of pages stand from the hash offset on
 abbrev pub code_slots : List ℕ → ℕ
 code_slots whole = number_at 28 whole
 
+-- how many bytes of the code are covered, in the field of four bytes
 abbrev pub code_limit : List ℕ → ℕ
 code_limit whole = number_at 32 whole
 
+-- how many bytes a digest has
 abbrev pub hash_size : List ℕ → ℕ
 hash_size whole = slice_index whole 36
 
+-- the type of the digests
 abbrev pub hash_type : List ℕ → ℕ
 hash_type whole = slice_index whole 37
 
+-- the number of the platform
 abbrev pub platform : List ℕ → ℕ
 platform whole = slice_index whole 38
 
+-- the size of a page, as the exponent of a power of two; 0 stands for one page of everything
 abbrev pub page_exponent : List ℕ → ℕ
 page_exponent whole = slice_index whole 39
 

@@ -25,6 +25,7 @@ pub record Placed : Type 0 where
   pub kind : ℕ
   pub bytes : List ℕ
 
+-- the bytes of a part as a directory, with the type of the part
 abbrev pub placed : ℕ → List ℕ → Placed
 placed kind part = record { kind = kind; bytes = part }
 
@@ -59,6 +60,7 @@ directories_fault whole = if is_some (part_of whole 0) then kinds_fault whole di
 abbrev pub hash_order : List ℕ
 hash_order = 4 ∷ 2 ∷ 3 ∷ 1 ∷ []
 
+-- the first of some directories, if there is one
 abbrev pub first_of : List Placed → Option Placed
 first_of [] = None
 first_of (d ∷ rest) = Some d

@@ -12,6 +12,7 @@ code_slot whole i = take (hash_size whole) (drop (hash_offset whole + i * hash_s
 abbrev pub is_blank : List ℕ → Bool
 is_blank bytes = list_all (λ b. b == 0) bytes
 
+-- the bytes of a slot, or nothing where they are zeros alone
 abbrev pub unless_blank : List ℕ → Option (List ℕ)
 unless_blank slot = if is_blank slot then None else Some slot
 

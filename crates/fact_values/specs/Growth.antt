@@ -7,15 +7,18 @@ use Rattle.fact_values.specs.declared.flag.FactFlag.TheVariants.{AppleAnchor, Ap
 use Rattle.fact_values.specs.declared.place.Place.{Place}
 use Rattle.fact_values.specs.declared.place.Place.TheVariants.{Info, Entitlement, CertField, CertOid, CertPolicy}
 
+-- what is known, with this flag set
 abbrev pub with_flag : FactFlag → Known → Known
 with_flag AppleAnchor k = record k { apple_anchor = true }
 with_flag AppleGeneric k = record k { apple_generic = true }
 with_flag Notarized k = record k { notarized = true }
 with_flag LegacyDevId k = record k { legacy_dev_id = true }
 
+-- one more name of the anchor
 abbrev pub with_anchor_name : List ℕ → Known → Known
 with_anchor_name name k = record k { anchor_name = with_name name k.anchor_name }
 
+-- one more name of the code
 abbrev pub with_code_name : List ℕ → Known → Known
 with_code_name name k = record k { code_name = with_name name k.code_name }
 
@@ -39,6 +42,7 @@ changed_at place change [] = []
 changed_at zero change (x ∷ rest) = change x ∷ rest
 changed_at (suc place) change (x ∷ rest) = x ∷ changed_at place change rest
 
+-- the certificate at a place of the chain, trusted
 abbrev pub with_trust : ℕ → Known → Known
 with_trust place k = record k { chain = changed_at place (λ c. record c { trusted = true }) k.chain }
 

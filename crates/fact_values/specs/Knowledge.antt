@@ -57,6 +57,7 @@ abbrev pub hash_in : Option f.Certificate → List ℕ
 hash_in None = []
 hash_in (Some c) = c.hash
 
+-- whether a certificate is trusted; one that isn't there is not
 abbrev pub trusted_in : Option f.Certificate → Bool
 trusted_in None = false
 trusted_in (Some c) = c.trusted
