@@ -11,6 +11,7 @@ use Rattle.code_facts.specs.declared.fault.FactFault.TheVariants.{BadRow, Twice,
 use Rattle.code_facts.specs.declared.limits.TheConstants.{MOST_ROWS}
 use Rattle.code_facts.specs.Rows.{Given, text, truth, item, Fact, flag, anchor_name, code_name, certificate, trust, entry, Row, row_of}
 
+-- the fact, where the condition holds
 abbrev pub fact_if : Bool → Fact → Option Fact
 fact_if true fact = Some fact
 fact_if false fact = None
@@ -45,6 +46,7 @@ fits count (certificate place hash) = place == count
 fits count (trust place) = nat_lt place count
 fits count (entry place key given) = is_there count place
 
+-- two flags are one and the same
 abbrev pub same_flag : FactFlag → FactFlag → Bool
 same_flag AppleAnchor AppleAnchor = true
 same_flag AppleGeneric AppleGeneric = true
@@ -52,6 +54,7 @@ same_flag Notarized Notarized = true
 same_flag LegacyDevId LegacyDevId = true
 same_flag a b = false
 
+-- two places are of one kind and, where they are of a certificate, of the same one
 abbrev pub same_place : Place → Place → Bool
 same_place Info Info = true
 same_place Entitlement Entitlement = true
@@ -99,6 +102,7 @@ is_same (certificate place hash) other = is_certificate place other
 is_same (trust place) other = is_trust place other
 is_same (entry place key given) other = is_value place key other
 
+-- what is given is one member of a list
 abbrev pub is_item : Given → Bool
 is_item (text bytes) = false
 is_item (truth b) = false
@@ -129,6 +133,7 @@ row_behind number earlier (Some row) = row_after number (facts_about earlier row
 abbrev pub taken : ℕ → List Row → List (List ℕ) → Result Row FactFault
 taken number earlier fields = if nat_lt (MOST_ROWS + 1) number then Err TooMany else row_behind number earlier (row_of fields)
 
+-- further rows behind a row that is taken, or what is wrong with that row
 abbrev pub then_rows : (Row → Result (List Row) FactFault) → Result Row FactFault → Result (List Row) FactFault
 then_rows more (Ok row) = more row
 then_rows more (Err fault) = Err fault
@@ -138,6 +143,7 @@ abbrev pub rows_behind : ℕ → List Row → List (List (List ℕ)) → Result 
 rows_behind number earlier [] = Ok earlier
 rows_behind number earlier (fields ∷ rest) = then_rows (λ row. rows_behind (number + 1) (earlier ++ row ∷ []) rest) (taken number earlier fields)
 
+-- two records have the same fields, byte for byte and in the same order
 abbrev pub same_fields : List (List ℕ) → List (List ℕ) → Bool
 same_fields [] [] = true
 same_fields [] (b ∷ ys) = false

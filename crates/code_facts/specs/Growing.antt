@@ -10,6 +10,7 @@ use Rattle.code_facts.specs.declared.fault.FactFault.TheVariants.{BadRow, Twice}
 use Rattle.code_facts.specs.Rows.{Given, text, truth, item, Fact, flag, anchor_name, code_name, certificate, trust, entry}
 use Rattle.code_facts.specs.FactsFile.{fits, is_item}
 
+-- the value is a list of texts
 abbrev pub is_list : Value → Bool
 is_list (f.text bytes) = false
 is_list (f.truth b) = false
@@ -29,6 +30,7 @@ is_known (certificate place hash) k = false
 is_known (trust place) k = trusted_at place k
 is_known (entry place key given) k = is_given_twice given (value_at place k key)
 
+-- what is known with what is given to a key of a place: a value by itself, or one member of its list
 abbrev pub with_given : Place → List ℕ → Given → Known → Known
 with_given place key (text bytes) k = with_value_at place key (f.text bytes) k
 with_given place key (truth b) k = with_value_at place key (f.truth b) k

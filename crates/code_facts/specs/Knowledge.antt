@@ -9,6 +9,7 @@ use Rattle.fact_values.specs.declared.place.Place.TheVariants.{Info, Entitlement
 use Rattle.code_facts.specs.Rows.{Given, text, truth, item, Fact, entry, Row}
 use Rattle.code_facts.specs.FactsFile.{facts_about, certs, same_place, is_flag, is_anchor_name, is_code_name, is_trust}
 
+-- what is given, where the condition holds
 abbrev pub given_when : Bool → Given → Option Given
 given_when true given = Some given
 given_when false given = None
@@ -22,6 +23,7 @@ given_at place key fact = None
 abbrev pub givens : List Fact → Place → List ℕ → List Given
 givens facts place key = filter_map (given_at place key) facts
 
+-- the bytes of one member of a list, where what is given is one
 abbrev pub item_bytes : Given → Option (List ℕ)
 item_bytes (text bytes) = None
 item_bytes (truth b) = None
@@ -75,6 +77,7 @@ known rows hash = known_by (facts_about rows hash)
 abbrev pub with_hash : List ℕ → List (List ℕ) → List (List ℕ)
 with_hash hash hashes = if list_any (bytes_eq hash) hashes then hashes else hashes ++ hash ∷ []
 
+-- hashes, and behind them those of rows that are not among them yet, in the order of the rows
 abbrev pub hashes_behind : List (List ℕ) → List Row → List (List ℕ)
 hashes_behind hashes [] = hashes
 hashes_behind hashes (row ∷ rest) = hashes_behind (with_hash row.hash hashes) rest

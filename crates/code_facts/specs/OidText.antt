@@ -14,6 +14,7 @@ front_septets (suc count) n = if n == 0 then [] else front_septets count (n / 12
 abbrev pub septets : ℕ → List ℕ
 septets n = front_septets 4 (n / 128) ++ (n % 128) ∷ []
 
+-- the bytes of the numbers that a text was read as, where it was read without a fault
 abbrev pub oid_of_numbers : Result (List ℕ) OidFault → Option (List ℕ)
 oid_of_numbers (Ok numbers) = Some (flat_map septets numbers)
 oid_of_numbers (Err fault) = None

@@ -43,6 +43,7 @@ pub data Scope : Type 0 where
   info_scope : Scope
   entitlement_scope : Scope
 
+-- the scope that a word names
 abbrev pub scope_word : List ℕ → Option Scope
 scope_word word =
     if bytes_eq word (codes "flag") then Some flag_scope
@@ -57,6 +58,7 @@ scope_word word =
     else if bytes_eq word (codes "entitlement") then Some entitlement_scope
     else None
 
+-- there are no bytes
 abbrev pub is_empty : List ℕ → Bool
 is_empty [] = true
 is_empty (b ∷ bytes) = false
@@ -74,6 +76,7 @@ flag_word word =
     else if bytes_eq word (codes "legacy") then Some LegacyDevId
     else None
 
+-- what is given, where the condition holds
 abbrev pub given_if : Bool → Given → Option Given
 given_if true given = Some given
 given_if false given = None
@@ -91,6 +94,7 @@ given_words kind value =
 abbrev pub alone : List ℕ → List ℕ → List ℕ → Option Fact → Option Fact
 alone slot kind value fact = if is_empty slot && is_empty kind && is_empty value then fact else None
 
+-- the certificate of a place by its hash, where both are there
 abbrev pub certificate_from : Option ℕ → Option (List ℕ) → Option Fact
 certificate_from None hash = None
 certificate_from (Some place) None = None
@@ -105,6 +109,7 @@ certificate_words slot key kind value =
 abbrev pub trust_words : List ℕ → List ℕ → List ℕ → List ℕ → Option Fact
 trust_words slot key kind value = if is_empty key && is_empty kind && is_empty value then option_map trust (place_word slot) else None
 
+-- what a key of a place is given, where all three are there
 abbrev pub value_from : Option Place → Option (List ℕ) → Option Given → Option Fact
 value_from None key given = None
 value_from (Some place) None given = None
@@ -128,10 +133,12 @@ fact_words cert_policy_scope slot key kind value = value_from (option_map CertPo
 fact_words info_scope slot key kind value = value_from (unslotted slot Info) (Some key) (given_words kind value)
 fact_words entitlement_scope slot key kind value = value_from (unslotted slot Entitlement) (Some key) (given_words kind value)
 
+-- the row of a hash and a fact, where there is a fact
 abbrev pub row_from : List ℕ → Option Fact → Option Row
 row_from hash None = None
 row_from hash (Some fact) = Some (record { hash = hash; fact = fact })
 
+-- the row of a hash, a scope and the words behind them, where they are of one of the forms
 abbrev pub row_words : Option (List ℕ) → Option Scope → List ℕ → List ℕ → List ℕ → List ℕ → Option Row
 row_words None scope slot key kind value = None
 row_words (Some hash) None slot key kind value = None

@@ -41,6 +41,7 @@ entry_facts own = (own.0.bytes, knowledge_of own.1)
 abbrev pub table_facts : FactTable → Facts
 table_facts table = map entry_facts table.by_hash.entries
 
+-- what is known by the facts, or nothing where there are none
 abbrev pub or_nothing : Option CodeFacts → Known
 or_nothing None = nothing
 or_nothing (Some facts) = knowledge_of facts
