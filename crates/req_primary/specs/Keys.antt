@@ -69,6 +69,7 @@ joined make (fine x n) bad_key = bad_key
 joined make (fine x n) deep = deep
 joined make (fine x n) (fine y m) = limited (make x y) (max n m + 1)
 
+-- an outcome negated, one deeper
 abbrev pub negated : Outcome → Outcome
 negated (fine x n) = limited (t.negate x) (n + 1)
 negated deep = deep

@@ -51,5 +51,6 @@ pub record IsPlainReading (list : List Terminal) (x : Tree) : Type 0 where
 abbrev pub ReadingsHavePlainOnes : Type 0
 ReadingsHavePlainOnes = (list : List Terminal) (x : Tree) → Reads list x → IsPlainReading list x
 
+-- what a reading with plain keys stands for is a reading of the same list
 abbrev pub PlainReadingsStand : Type 0
 PlainReadingsStand = (list : List Terminal) (plain x : Tree) → Expr AnyKey list plain → StandsFor plain x → Reads list x

@@ -17,12 +17,14 @@ key_at size here = do
   behind ← right_bracket_at size key.1
   Ok (key.0, behind)
 
+-- a key and a test of the information list
 unfoldable pub info_at : ℕ → Reader Tree
 info_at size here = do
   key ← key_at size here
   test ← test_at size key.1
   Ok (t.info_field key.0 test.0, test.1)
 
+-- a key and a test of the entitlements
 unfoldable pub entitlement_at : ℕ → Reader Tree
 entitlement_at size here = do
   key ← key_at size here
@@ -36,10 +38,12 @@ cert_key_at size slot here = do
   test ← test_at size key.1
   Ok (t.cert_field slot key.0 test.0, test.1)
 
+-- what follows the symbol where it is an equals sign, else the list as it stands
 abbrev pub behind_sign : List Terminal → Sign → List Terminal → List Terminal
 behind_sign here w.equal rest = rest
 behind_sign here other rest = here
 
+-- the same, from the symbol at the front, where one stands there
 abbrev pub behind_equal_of : List Terminal → Option (Sign × List Terminal) → List Terminal
 behind_equal_of here None = here
 behind_equal_of here (Some x) = behind_sign here x.0 x.1
@@ -48,12 +52,15 @@ behind_equal_of here (Some x) = behind_sign here x.0 x.1
 unfoldable pub behind_equal : List Terminal → List Terminal
 behind_equal here = behind_equal_of here (sign_first here)
 
+-- a string that the identifier is, with an equals sign before it or none
 unfoldable pub ident_at : ℕ → Reader Tree
 ident_at size here = text_at size (behind_equal here) >>= λ x. Ok (t.ident x.0, x.1)
 
+-- a hash that is the code directory's
 unfoldable pub cd_hash_at : ℕ → Reader Tree
 cd_hash_at size here = hash_at size here >>= λ x. Ok (t.cd_hash x.0, x.1)
 
+-- a number that the platform is, behind an equals sign
 unfoldable pub platform_at : ℕ → Reader Tree
 platform_at size here = do
   rest ← equal_at size here
@@ -64,14 +71,17 @@ platform_at size here = do
 unfoldable pub anchor_hash_at : ℕ → ℤ → Reader Tree
 anchor_hash_at size slot here = hash_at size here >>= λ x. Ok (t.anchor_hash slot x.0, x.1)
 
+-- what is asked of the certificate in a slot, where a symbol stands first: its hash, or a key and a test
 abbrev pub slotted_of_sign : ℕ → ℤ → List Terminal → Sign → List Terminal → Reading Tree
 slotted_of_sign size slot here w.equal rest = anchor_hash_at size slot rest
 slotted_of_sign size slot here other rest = cert_key_at size slot here
 
+-- the same where a word stands first: that the certificate is trusted
 abbrev pub slotted_of_word : ℕ → ℤ → List Terminal → Word → List Terminal → Reading Tree
 slotted_of_word size slot here w.trusted rest = Ok (t.trusted_cert slot, rest)
 slotted_of_word size slot here other rest = refused size here
 
+-- what is asked of the certificate in a slot, from the first terminal
 abbrev pub slotted_of : ℕ → ℤ → List Terminal → Terminal → List Terminal → Reading Tree
 slotted_of size slot here (word c) rest = slotted_of_word size slot here c rest
 slotted_of size slot here (sign s) rest = slotted_of_sign size slot here s rest
@@ -81,18 +91,22 @@ slotted_of size slot here other rest = refused size here
 unfoldable pub slotted_at : ℕ → ℤ → Reader Tree
 slotted_at size slot here = first_at size here >>= λ x. slotted_of size slot here x.0 x.1
 
+-- a slot, and what is asked of the certificate in it
 unfoldable pub cert_at : ℕ → Reader Tree
 cert_at size here = slot_at size here >>= λ x. slotted_at size x.0 x.1
 
+-- any certificate below Apple's anchor where the word says so, else the anchor alone
 abbrev pub apple_of_word : List Terminal → Word → List Terminal → Reading Tree
 apple_of_word here w.generic rest = Ok (t.apple_generic, rest)
 apple_of_word here other rest = Ok (t.apple_anchor, here)
 
+-- which of Apple's anchors is meant, from the terminal at the front
 abbrev pub apple_of : List Terminal → Terminal → List Terminal → Reading Tree
 apple_of here (word c) rest = apple_of_word here c rest
 apple_of here (str s) rest = Ok (t.named_anchor s, rest)
 apple_of here other rest = Ok (t.apple_anchor, here)
 
+-- the same, where there may be no terminal: then it is Apple's anchor alone
 abbrev pub apple_by : List Terminal → Option (Terminal × List Terminal) → Reading Tree
 apple_by here None = Ok (t.apple_anchor, here)
 apple_by here (Some x) = apple_of here x.0 x.1
@@ -101,11 +115,13 @@ apple_by here (Some x) = apple_of here x.0 x.1
 unfoldable pub apple_at : Reader Tree
 apple_at here = apple_by here (cut here)
 
+-- what is asked of the anchor, where a word stands first: that it is Apple's, or that any is trusted
 abbrev pub anchor_of_word : ℕ → List Terminal → Word → List Terminal → Reading Tree
 anchor_of_word size here w.apple rest = apple_at rest
 anchor_of_word size here w.trusted rest = Ok (t.trusted_any, rest)
 anchor_of_word size here other rest = refused size here
 
+-- what is asked of the anchor, from the first terminal; a symbol asks it of the last certificate
 abbrev pub anchor_of : ℕ → List Terminal → Terminal → List Terminal → Reading Tree
 anchor_of size here (word c) rest = anchor_of_word size here c rest
 anchor_of size here (sign s) rest = slotted_of_sign size (negsuc 0) here s rest

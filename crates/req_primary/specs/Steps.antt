@@ -43,6 +43,7 @@ unfoldable pub first_at : ℕ → Reader Terminal
 first_at size [] = refused size []
 first_at size (first ∷ rest) = Ok (first, rest)
 
+-- the symbol that a terminal is, and what follows it; any other terminal is refused
 abbrev pub sign_of : ℕ → List Terminal → Terminal → List Terminal → Reading Sign
 sign_of size here (sign s) rest = Ok (s, rest)
 sign_of size here other rest = refused size here
@@ -51,6 +52,7 @@ sign_of size here other rest = refused size here
 unfoldable pub sign_at : ℕ → Reader Sign
 sign_at size here = first_at size here >>= λ x. sign_of size here x.0 x.1
 
+-- what follows the symbol where it is a right parenthesis; any other is refused
 abbrev pub close_of : ℕ → List Terminal → Sign → List Terminal → Result (List Terminal) ReadingFault
 close_of size here w.right_paren rest = Ok rest
 close_of size here other rest = refused size here
@@ -59,6 +61,7 @@ close_of size here other rest = refused size here
 unfoldable pub close_at : ℕ → List Terminal → Result (List Terminal) ReadingFault
 close_at size here = sign_at size here >>= λ x. close_of size here x.0 x.1
 
+-- what follows the symbol where it is a left bracket; any other is refused
 abbrev pub left_bracket_of : ℕ → List Terminal → Sign → List Terminal → Result (List Terminal) ReadingFault
 left_bracket_of size here w.left_bracket rest = Ok rest
 left_bracket_of size here other rest = refused size here
@@ -67,6 +70,7 @@ left_bracket_of size here other rest = refused size here
 unfoldable pub left_bracket_at : ℕ → List Terminal → Result (List Terminal) ReadingFault
 left_bracket_at size here = sign_at size here >>= λ x. left_bracket_of size here x.0 x.1
 
+-- what follows the symbol where it is a right bracket; any other is refused
 abbrev pub right_bracket_of : ℕ → List Terminal → Sign → List Terminal → Result (List Terminal) ReadingFault
 right_bracket_of size here w.right_bracket rest = Ok rest
 right_bracket_of size here other rest = refused size here
@@ -75,6 +79,7 @@ right_bracket_of size here other rest = refused size here
 unfoldable pub right_bracket_at : ℕ → List Terminal → Result (List Terminal) ReadingFault
 right_bracket_at size here = sign_at size here >>= λ x. right_bracket_of size here x.0 x.1
 
+-- what follows the symbol where it is an equals sign; any other is refused
 abbrev pub equal_of : ℕ → List Terminal → Sign → List Terminal → Result (List Terminal) ReadingFault
 equal_of size here w.equal rest = Ok rest
 equal_of size here other rest = refused size here
@@ -83,6 +88,7 @@ equal_of size here other rest = refused size here
 unfoldable pub equal_at : ℕ → List Terminal → Result (List Terminal) ReadingFault
 equal_at size here = sign_at size here >>= λ x. equal_of size here x.0 x.1
 
+-- the bytes of the string that a terminal is, and what follows it; any other terminal is refused
 abbrev pub text_of : ℕ → List Terminal → Terminal → List Terminal → Reading (List ℕ)
 text_of size here (str s) rest = Ok (s, rest)
 text_of size here other rest = refused size here
@@ -91,6 +97,7 @@ text_of size here other rest = refused size here
 unfoldable pub text_at : ℕ → Reader (List ℕ)
 text_at size here = first_at size here >>= λ x. text_of size here x.0 x.1
 
+-- the bytes of the hash that a terminal is, and what follows it; any other terminal is refused
 abbrev pub hash_of : ℕ → List Terminal → Terminal → List Terminal → Reading (List ℕ)
 hash_of size here (hash h) rest = Ok (h, rest)
 hash_of size here other rest = refused size here
@@ -104,10 +111,12 @@ abbrev pub sign_first : List Terminal → Option (Sign × List Terminal)
 sign_first (sign s ∷ rest) = Some (s, rest)
 sign_first here = None
 
+-- what follows the symbol where it is a star, else nothing
 abbrev pub star_sign : Sign → List Terminal → Option (List Terminal)
 star_sign w.star rest = Some rest
 star_sign other rest = None
 
+-- the same, where there may be no symbol
 abbrev pub star_of : Option (Sign × List Terminal) → Option (List Terminal)
 star_of None = None
 star_of (Some x) = star_sign x.0 x.1
