@@ -4,6 +4,7 @@ use Rattle.dumped_text.specs.Dumped.{Place, alone, beside_and, behind_bang}
 use Rattle.req_dumper.specs.declared.place.Place as place
 use Rattle.req_dumper.specs.declared.place.Place.TheVariants.{Alone, BesideAnd, BehindBang}
 
+-- the place that a place of the program stands for
 abbrev pub place_of : place.Place → Place
 place_of Alone = alone
 place_of BesideAnd = beside_and

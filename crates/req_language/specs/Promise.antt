@@ -30,6 +30,7 @@ abbrev pub KeepsPart : Option Tree → Type 0
 KeepsPart None = Unit {0}
 KeepsPart (Some tree) = KeepsMeaning tree
 
+-- the normal form of each tree of the set means what the tree means
 pub record KeepsSet (set : TreeSet) : Type 0 where
   pub host : KeepsPart set.host
   pub guest : KeepsPart set.guest
@@ -37,6 +38,7 @@ pub record KeepsSet (set : TreeSet) : Type 0 where
   pub library : KeepsPart set.library
   pub plugin : KeepsPart set.plugin
 
+-- a part of a set is spoken, where it is there
 abbrev pub IsSpokenPart : Option Tree → Type 0
 IsSpokenPart None = Unit {0}
 IsSpokenPart (Some tree) = IsSpoken tree

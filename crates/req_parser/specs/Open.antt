@@ -5,6 +5,7 @@ use Rattle.req_grammar.specs.Words.{Sign}
 use Rattle.req_grammar.specs.Terminals.{Terminal, sign}
 use Rattle.req_grammar.specs.declared.limits.TheConstants.{MOST_OPEN_PARENTHESES}
 
+-- how many left parentheses a sign is, and how many right ones
 abbrev pub sides_of : Sign → ℕ × ℕ
 sides_of w.left_paren = (1, 0)
 sides_of w.right_paren = (0, 1)

@@ -16,10 +16,12 @@ abbrev pub word_first : List Terminal → Option (Word × List Terminal)
 word_first (word c ∷ rest) = Some (c, rest)
 word_first here = None
 
+-- what follows a word, where the word is `and`
 abbrev pub and_word : Word → List Terminal → Option (List Terminal)
 and_word w.and rest = Some rest
 and_word other rest = None
 
+-- what follows the word that was found, where one was and it is `and`
 abbrev pub and_of : Option (Word × List Terminal) → Option (List Terminal)
 and_of None = None
 and_of (Some x) = and_word x.0 x.1
@@ -28,10 +30,12 @@ and_of (Some x) = and_word x.0 x.1
 unfoldable pub and_at : List Terminal → Option (List Terminal)
 and_at here = and_of (word_first here)
 
+-- what follows a word, where the word is `or`
 abbrev pub or_word : Word → List Terminal → Option (List Terminal)
 or_word w.or rest = Some rest
 or_word other rest = None
 
+-- what follows the word that was found, where one was and it is `or`
 abbrev pub or_of : Option (Word × List Terminal) → Option (List Terminal)
 or_of None = None
 or_of (Some x) = or_word x.0 x.1
@@ -58,10 +62,12 @@ chain_from (suc n) op join item x here = behind x here (λ rest. joined_at join 
 abbrev pub chain : ℕ → (List Terminal → Option (List Terminal)) → (Tree → Tree → Tree) → Reader Tree → Reader Tree
 chain n op join item here = item here >>= λ x. chain_from n op join item x.0 x.1
 
+-- the sign is `!`
 abbrev pub is_bang_sign : Sign → Bool
 is_bang_sign w.bang = true
 is_bang_sign other = false
 
+-- the terminal is the sign `!`
 abbrev pub is_bang : Terminal → Bool
 is_bang (sign s) = is_bang_sign s
 is_bang other = false
@@ -75,6 +81,7 @@ bangs_from count (first ∷ rest) = if is_bang first then bangs_from (count + 1)
 abbrev pub bangs : List Terminal → ℕ × List Terminal
 bangs here = bangs_from 0 here
 
+-- a tree, so often negated
 abbrev pub negations : ℕ → Tree → Tree
 negations zero x = x
 negations (suc n) x = negations n (t.negate x)
@@ -83,12 +90,15 @@ negations (suc n) x = negations n (t.negate x)
 unfoldable pub named_at : ℕ → List ℕ → Reader Tree
 named_at size name here = close_at size here >>= λ rest. Ok (t.named_code name, rest)
 
+-- the tree that was read, and what follows the right parenthesis behind it
 abbrev pub closed : ℕ → Tree × List Terminal → Reading Tree
 closed size x = close_at size x.1 >>= λ rest. Ok (x.0, rest)
 
+-- what the reader inside reads, with a right parenthesis behind it
 abbrev pub closed_at : ℕ → Reader Tree → Reader Tree
 closed_at size inside here = inside here >>= closed size
 
+-- behind a left parenthesis, by the terminal there: code by its name, or an expression and its end
 abbrev pub paren_of : ℕ → Reader Tree → List Terminal → Terminal → List Terminal → Reading Tree
 paren_of size inside here (str name) rest = named_at size name rest
 paren_of size inside here other rest = closed_at size inside here
@@ -97,10 +107,12 @@ paren_of size inside here other rest = closed_at size inside here
 unfoldable pub paren_at : ℕ → Reader Tree → Reader Tree
 paren_at size inside here = first_at size here >>= λ x. paren_of size inside here x.0 x.1
 
+-- an operand that begins with a sign: only a left parenthesis may stand there
 abbrev pub operand_of_sign : ℕ → Reader Tree → List Terminal → Sign → List Terminal → Reading Tree
 operand_of_sign size inside here w.left_paren rest = paren_at size inside rest
 operand_of_sign size inside here other rest = refused size here
 
+-- an operand by its first terminal: a primary at a word, parentheses at a sign, else refused
 abbrev pub operand_of : ℕ → Reader Tree → List Terminal → Terminal → List Terminal → Reading Tree
 operand_of size inside here (word c) rest = primary_at size c here rest
 operand_of size inside here (sign s) rest = operand_of_sign size inside here s rest
