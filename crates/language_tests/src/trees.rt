@@ -1,5 +1,6 @@
 //! Trees that are built, shared and kept, and the small values that they speak of.
 
+use req_eval::eval;
 use req_tree::{
     Bytes, Hash20, Identifier, LineText, Match, Req, ReqSet, SharedReq, Subject, depth,
     is_encodable, is_spoken, read_hash,
@@ -39,7 +40,7 @@ fn is_shared(alloc: Global, req: Req) -> Result<bool, AllocError> {
     match subject() {
         Some(subject) => {
             let same = subject.copied() == subject;
-            Ok(again.req().holds_without_facts(&subject) && same)
+            Ok(eval(again.req(), &subject, None) && same)
         }
         None => Ok(false),
     }

@@ -8,7 +8,6 @@ mod identifier;
 pub mod laws;
 mod limits;
 mod matching;
-mod meaning;
 mod oid;
 mod oid_bytes;
 mod oid_text;
