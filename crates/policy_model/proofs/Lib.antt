@@ -1,7 +1,7 @@
-mod FirstRows
-mod OwnIds
+pub mod FirstRows
+pub mod OwnIds
 mod OneOutcome
-mod OneMoreEvent
+pub mod OneMoreEvent
 mod DecimalPlaces
 mod OwnKeys
 mod WorkedRows
