@@ -6,3 +6,5 @@ pub mod Rule
 pub mod Found
 pub mod Outcome
 pub mod Snapshot
+pub mod Naming
+pub mod Selector
