@@ -3,6 +3,6 @@ pub mod OwnIds
 mod OneOutcome
 pub mod OneMoreEvent
 mod DecimalPlaces
-mod OwnKeys
+pub mod OwnKeys
 mod WorkedRows
 mod PriorityTexts

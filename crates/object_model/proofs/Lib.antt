@@ -1,0 +1,21 @@
+pub mod Filters
+pub mod EditLaws
+pub mod Firsts
+pub mod Says
+pub mod Right
+pub mod OutcomeSays
+pub mod PastLaws
+pub mod KeptLaws
+pub mod OneEach
+pub mod Sound
+pub mod CountLaws
+pub mod Wording
+mod WorkedObjects
+pub mod LegalHistories
+pub mod TicketLaws
+pub mod MoreLaws
+pub mod PurgeLaws
+pub mod RingLaws
+pub mod StandsLemmas
+pub mod FreshDesk
+pub mod MarkBounds

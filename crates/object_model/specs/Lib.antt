@@ -1,0 +1,12 @@
+pub mod Objects
+pub mod Past
+pub mod Kept
+pub mod Fresh
+pub mod Once
+pub mod Purges
+pub mod Rings
+pub mod Tickets
+pub mod Laws
+pub mod DropLaws
+pub mod Stands
+pub mod StandsLaws
