@@ -1,0 +1,3 @@
+pub mod EditKey
+pub mod Edit
+pub mod Fronts
