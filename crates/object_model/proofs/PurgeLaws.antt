@@ -1,5 +1,5 @@
 -- An edit drops what the first touched rank of each kind drops.
-use Rattle.std.proofs.Common.{◌≡◌, ℕ, List, [], ◌∷◌, refl, sym, ap, ◌∙◌, arith, Option, Some, None}
+use Rattle.std.proofs.Common.{◌≡◌, ℕ, ◌+◌, List, [], ◌∷◌, refl, sym, ap, ◌∙◌, arith, Option, Some, None}
 use Rattle.std.specs.Prelude.{Bool, true, false, not, ◌&&◌, ◌||◌, option_map, is_some, if◌then◌else◌}
 use Rattle.std.specs.List.{filter, list_any}
 use Rattle.std.proofs.Math.Path.{fun_ext}
@@ -8,10 +8,11 @@ use Rattle.std.proofs.lemmas.Bool.Decides.{nat_tests}
 use Rattle.req_tree.specs.Subject.{Subject}
 use Rattle.policy_model.specs.Rules.{Row, Rank, Kind, execute, install, document, same_kind, rank_of, is_before, first, sooner}
 use Rattle.policy_model.specs.Outcomes.{Outcome, governed, default}
-use Rattle.policy_model.specs.History.{Entry}
+use Rattle.policy_model.specs.History.{Entry, Counts}
 use Rattle.object_model.specs.Objects.{rests_on, outlasts}
-use Rattle.object_model.specs.Purges.{first_touched, reaches, purged}
-use Rattle.object_model.specs.DropLaws.{EditPurges, CountsPurges}
+use Rattle.object_model.specs.Purges.{first_touched, reaches, purged, purged_counts}
+use Rattle.object_model.specs.Stands.{one_more}
+use Rattle.object_model.specs.DropLaws.{EditPurges, CountsPurges, MarksPurge}
 
 -- the outcome rests on a row of a rank that may be there
 abbrev pub is_reached : Outcome → Option Rank → Bool
@@ -105,3 +106,37 @@ edit_purges touched objects =
     purged_is document (first_touched document touched) _
     ∙ ap (filter r) (purged_is install (first_touched install touched) _ ∙ ap (filter q) (purged_is execute (first_touched execute touched) objects) ∙ filter_both q p objects)
     ∙ filter_both r (λ e. p e && q e) objects)
+
+abbrev three : ℕ → ℕ → ℕ → Counts
+three a b c = record { execute = a; install = b; document = c }
+
+pub same_three : (a b c x y z : ℕ) → a ≡ x → b ≡ y → c ≡ z → three a b c ≡ three x y z
+same_three a b c x y z e f g = ap (λ n. three n b c) e ∙ ap (λ n. three x n c) f ∙ ap (λ n. three x y n) g
+
+-- each kind's count, after the first rank that is touched in it
+execute_one : (f : Option Rank) (c : Counts) → purged_counts execute f c ≡ three (one_more (is_some f) c.execute) c.install c.document
+execute_one None c = same_three c.execute c.install c.document (c.execute + 0) c.install c.document (omega arith) refl refl
+execute_one (Some r) c = refl
+
+install_one : (f : Option Rank) (c : Counts) → purged_counts install f c ≡ three c.execute (one_more (is_some f) c.install) c.document
+install_one None c = same_three c.execute c.install c.document c.execute (c.install + 0) c.document refl (omega arith) refl
+install_one (Some r) c = refl
+
+document_one : (f : Option Rank) (c : Counts) → purged_counts document f c ≡ three c.execute c.install (one_more (is_some f) c.document)
+document_one None c = same_three c.execute c.install c.document c.execute c.install (c.document + 0) refl refl (omega arith)
+document_one (Some r) c = refl
+
+by_ranks : (a b d : Option Rank) (c : Counts) → purged_counts document d (purged_counts install b (purged_counts execute a c))
+    ≡ three (one_more (is_some a) c.execute) (one_more (is_some b) c.install) (one_more (is_some d) c.document)
+by_ranks a b d c =
+    ap (λ x. purged_counts document d (purged_counts install b x)) (execute_one a c)
+    ∙ ap (purged_counts document d) (install_one b (three (one_more (is_some a) c.execute) c.install c.document))
+    ∙ document_one d (three (one_more (is_some a) c.execute) (one_more (is_some b) c.install) c.document)
+
+pub marks_purge : MarksPurge
+marks_purge touched c =
+    same_three _ _ _ _ _ _
+    (ap (λ b. one_more b c.execute) (sym (counts_purges execute touched)))
+    (ap (λ b. one_more b c.install) (sym (counts_purges install touched)))
+    (ap (λ b. one_more b c.document) (sym (counts_purges document touched)))
+    ∙ sym (by_ranks (first_touched execute touched) (first_touched install touched) (first_touched document touched) c)

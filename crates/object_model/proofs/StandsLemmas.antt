@@ -22,13 +22,7 @@ use Rattle.object_model.proofs.Sound.{found_answers}
 use Rattle.object_model.proofs.LegalHistories.{legal_start, legal_more, one_offer, none_ahead, get_last, all_taken}
 use Rattle.object_model.proofs.MoreLaws.{objects_of-more, mark_of-more}
 use Rattle.object_model.proofs.TicketLaws.{tick_passes_over, edit_passes_over, ticket_judges, ticket_decides}
-use Rattle.object_model.proofs.PurgeLaws.{edit_purges}
-
-abbrev three : ℕ → ℕ → ℕ → Counts
-three a b c = record { execute = a; install = b; document = c }
-
-same_three : (a b c x y z : ℕ) → a ≡ x → b ≡ y → c ≡ z → three a b c ≡ three x y z
-same_three a b c x y z e f g = ap (λ n. three n b c) e ∙ ap (λ n. three x n c) f ∙ ap (λ n. three x y n) g
+use Rattle.object_model.proofs.PurgeLaws.{same_three, edit_purges}
 
 pub counts_of-more : (o : Opening) (h : List Event) (e : Event) → counts_of o (h ++ e ∷ []) ≡ counts_with (touched_step e (tables_of o h)) (counts_of o h)
 counts_of-more o h e = same_three _ _ _ _ _ _ (mark_of-more o h execute e) (mark_of-more o h install e) (mark_of-more o h document e)

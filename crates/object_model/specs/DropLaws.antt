@@ -4,10 +4,11 @@ use Rattle.std.specs.List.{filter}
 use Rattle.req_tree.specs.Subject.{Subject}
 use Rattle.policy_model.specs.Rules.{Row, Rank, Kind, rank_of, Before}
 use Rattle.policy_model.specs.Outcomes.{governed, default}
-use Rattle.policy_model.specs.History.{Event, Entry, Opening}
+use Rattle.policy_model.specs.History.{Event, Entry, Opening, Counts}
 use Rattle.object_model.specs.Objects.{is_unexpired, outlasts, touches, is_moved}
 use Rattle.object_model.specs.Past.{touched_since, mark_of}
-use Rattle.object_model.specs.Purges.{first_touched, purged_by}
+use Rattle.object_model.specs.Purges.{first_touched, purged_by, counts_by}
+use Rattle.object_model.specs.Stands.{counts_with}
 use Rattle.object_model.specs.Rings.{ring_of, moved_by}
 
 -- where no later edit of the kind is forgiven, the counts tell whether an outcome has moved
@@ -47,3 +48,7 @@ EditPurges = (touched : List Row) (objects : List Entry) → filter (outlasts to
 -- and each kind is counted exactly where it has a first touched rank
 abbrev pub CountsPurges : Type 0
 CountsPurges = (kind : Kind) (touched : List Row) → is_some (first_touched kind touched) ≡ touches kind touched
+
+-- so the counts after an edit are those after its first touched ranks
+abbrev pub MarksPurge : Type 0
+MarksPurge = (touched : List Row) (c : Counts) → counts_with touched c ≡ counts_by touched c

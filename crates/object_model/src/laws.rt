@@ -2,7 +2,7 @@
 
 ghost use Rattle.object_model.specs.StandsLaws.{KnownAnswers, BeginGives, OpeningStands, TickStands, QuietStands, EditStands, FinishStands, TickKeepsFresh, EditKeepsFresh, StandsFresh, MarksStayBelow};
 ghost use Rattle.object_model.specs.Laws.{StaysSound, FreshIsSound, HoldsUntil, FoundAnswers, TickKeeps, EditKeeps, OfferKeeps, TicketStays, TicketJudges, TicketAnswers, TicketDecides};
-ghost use Rattle.object_model.specs.DropLaws.{MovedByCounts, MovedByRing, GovernedOutlasts, DefaultOutlasts, TickPassesOver, EditPassesOver, EditPurges, CountsPurges};
+ghost use Rattle.object_model.specs.DropLaws.{MovedByCounts, MovedByRing, GovernedOutlasts, DefaultOutlasts, TickPassesOver, EditPassesOver, EditPurges, CountsPurges, MarksPurge};
 
 /// What is kept stays right through any history: although it was judged over rules that edits have since passed.
 pub fn kept_stays_right()
@@ -49,6 +49,7 @@ pub fn ended_entries_may_stay()
 pub fn first_ranks_purge()
     ensures entries { EditPurges }
     ensures counts { CountsPurges }
+    ensures marks { MarksPurge }
 {}
 
 /// Each call leaves a desk standing for the history with its event added.

@@ -1,0 +1,4 @@
+pub mod Entry
+pub mod Offered
+pub mod Marks
+pub mod Objects
