@@ -46,8 +46,22 @@ test_false a b false e h = refl
 ahead_one_way : (a b : Rank) → is_before a b ≡ true → is_before b a ≡ false
 ahead_one_way a b h = test_false b a (is_before b a) refl (λ e. grind (arith, ints, nat_tests, h, e))
 
-ahead_through : (a b c : Rank) → is_before a b ≡ false → is_before b c ≡ false → is_before a c ≡ false
+pub ahead_through : (a b c : Rank) → is_before a b ≡ false → is_before b c ≡ false → is_before a c ≡ false
 ahead_through a b c h k = test_false a c (is_before a c) refl (λ e. grind (arith, ints, nat_tests, h, k, e))
+
+test_true : (a b : Rank) (t : Bool) → is_before a b ≡ t → (is_before a b ≡ false → ⊥) → t ≡ true
+test_true a b true e h = refl
+test_true a b false e h = absurd (h e)
+
+-- the test is Before
+pub before_true : (a b : Rank) → Before a b → is_before a b ≡ true
+before_true a b k = test_true a b (is_before a b) refl (λ e. not_tried_before a b e k)
+
+before_from : (a b : Rank) → is_before a b ≡ true → Before a b
+before_from a b e = grind (arith, ints, nat_tests, e)
+
+pub before_false : (a b : Rank) → (Before a b → ⊥) → is_before a b ≡ false
+before_false a b k = test_false a b (is_before a b) refl (λ e. k (before_from a b e))
 
 abbrev ahead : Rule → Rule → Bool
 ahead one other = is_before (rank_of (row_of one)) (rank_of (row_of other))

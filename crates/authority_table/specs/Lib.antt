@@ -8,3 +8,9 @@ pub mod Outcome
 pub mod Snapshot
 pub mod Naming
 pub mod Selector
+pub mod Rooms
+pub mod Touched
+pub mod Tally
+pub mod Changes
+pub mod Prepared
+pub mod Held

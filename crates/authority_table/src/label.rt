@@ -15,7 +15,7 @@ pub struct Label {
 }
 
 impl Label {
-    ghost use Rattle.std.specs.Prelude.{◌≡◌, ◌≤◌, ◌↔◌, length, IsSome, IfSome, []};
+    ghost use Rattle.std.specs.Prelude.{◌≡◌, ◌≤◌, ◌↔◌, length, IsSome, IfSome, [], bytes_eq};
     ghost use Rattle.authority_table.specs.Label.{label_bytes};
 
     /// The label of no bytes.
@@ -50,6 +50,12 @@ impl Label {
         ensures short { length result.now ≤ MOST_LABEL_BYTES }
     {
         self.bytes.as_slice()
+    }
+
+    pub fn is(&self, other: &Label) -> bool
+        ensures { result ≡ bytes_eq (label_bytes self.now) (label_bytes other.now) }
+    {
+        self.as_slice() == other.as_slice()
     }
 
     /// The label of a caller that knows it to be short enough.

@@ -1,13 +1,17 @@
 //! The rules of the desk, and which of them decides.
 #![tactic(auto)]
 
+mod changes;
+mod fault;
 mod found;
 mod kind;
 mod label;
 mod moment;
 mod outcome;
+mod prepared;
 mod priority;
 mod rank;
+mod rooms;
 mod row_change;
 mod rule;
 mod rule_id;
@@ -15,12 +19,16 @@ mod rules;
 mod selector;
 mod short_req;
 mod table;
+mod tally;
+mod touched;
 
+pub use fault::PlanFault;
 pub use found::Found;
 pub use kind::Kind;
 pub use label::Label;
 pub use moment::Moment;
 pub use outcome::Outcome;
+pub use prepared::Prepared;
 pub use priority::Priority;
 pub use rank::Rank;
 pub use row_change::RowChange;

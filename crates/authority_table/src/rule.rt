@@ -1,6 +1,6 @@
 //! A rule of the authority table.
 
-ghost use Rattle.std.specs.Prelude.{◌≡◌, ◌↔◌, IsTrue, IfOk};
+ghost use Rattle.std.specs.Prelude.{◌≡◌, ◌↔◌, IsTrue, IfOk, option_map};
 ghost use Rattle.req_tree.specs.Facts as f;
 ghost use Rattle.req_tree.specs.Facts.{Known, known_of};
 ghost use Rattle.req_tree.specs.Meaning.{means};
@@ -17,7 +17,9 @@ use crate::label::Label;
 use crate::moment::Moment;
 use crate::priority::Priority;
 use crate::rank::Rank;
+use crate::row_change::RowChange;
 use crate::rule_id::RuleId;
+use crate::selector::{Selector, Which};
 use crate::short_req::ShortReq;
 use fact_values::Facts;
 use req_tree::{Bytes, SharedReq, Subject};
@@ -52,6 +54,9 @@ pub struct Rule {
 impl Rule {
     ghost use Rattle.authority_table.specs.Rank.{rank_view};
     ghost use Rattle.authority_table.specs.Rule.{row_of};
+    ghost use Rattle.policy_model.specs.Changes.{named_by, in_kind, selects};
+    ghost use Rattle.authority_table.specs.Selector.{which_of, selector_of};
+    ghost use Rattle.authority_table.specs.Changes.{changed_by, CanChange};
 
     pub fn rank(&self) -> Rank
         ensures { rank_view result ≡ model.rank_of (row_of self.now) }
@@ -118,6 +123,45 @@ impl Rule {
         match self.expires {
             None => true,
             Some(end) => at < end,
+        }
+    }
+
+    pub fn is_selected(&self, selector: &Selector) -> bool
+        ensures { result ≡ selects (selector_of selector.now) (row_of self.now) }
+    {
+        let named = self.is_named(&selector.which);
+        let of_kind = self.is_in(selector.kind);
+        named && of_kind
+    }
+
+    fn is_named(&self, which: &Which) -> bool
+        ensures { result ≡ named_by (which_of which.now) (row_of self.now) }
+    {
+        match which {
+            Which::Id(id) => self.id == *id,
+            Which::Label(label) => self.label.is(label),
+        }
+    }
+
+    fn is_in(&self, kind: Option<Kind>) -> bool
+        ensures { result ≡ in_kind (option_map kind_of kind) (row_of self.now) }
+    {
+        match kind {
+            None => true,
+            Some(kind) => self.kind.is(kind),
+        }
+    }
+
+    /// Changes the rule in place. One that is to be removed stays as it is here.
+    pub(crate) fn change(&mut self, change: &RowChange)
+        requires { CanChange change.now self.old.disabled }
+        ensures { row_of self.new ≡ changed_by change.now (row_of self.old) }
+    {
+        match change {
+            RowChange::Remove => {}
+            RowChange::Enable => self.disabled = 0,
+            RowChange::Disable => self.disabled += 1,
+            RowChange::Expire(end) => self.expires = *end,
         }
     }
 }

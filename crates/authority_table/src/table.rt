@@ -1,6 +1,6 @@
 //! The list of all rules, in the order in which they were added.
 
-ghost use Rattle.std.specs.Prelude.{◌≡◌, ◌<◌, ◌≤◌, ◌↔◌, [], ◌∷◌, ◌++◌, length, IsTrue, IfOk, OnOk, OnErr};
+ghost use Rattle.std.specs.Prelude.{◌≡◌, ◌≢◌, ◌<◌, ◌≤◌, ◌↔◌, ◌+◌, ◌==◌, ℕ, max, List, [], ◌∷◌, ◌++◌, length, IsTrue, IfOk, IfErr, IfSome, OnOk, OnErr, vec_capacity};
 ghost use Rattle.std.specs.Arc.{arc_value};
 ghost use Rattle.req_tree.specs.Facts as f;
 ghost use Rattle.req_tree.specs.Facts.{known_of};
@@ -9,11 +9,20 @@ ghost use Rattle.req_tree.specs.Subject.{subject_of};
 ghost use Rattle.policy_model.specs.declared.limits.TheConstants.{MOST_RULES};
 ghost use Rattle.authority_table.specs.Kind.{kind_of};
 
+use crate::changes;
+use crate::fault::PlanFault;
 use crate::found::Found;
 use crate::kind::Kind;
 use crate::moment::Moment;
+use crate::prepared::{Prepared, Step};
+use crate::rooms::{pushed, room_behind};
+use crate::row_change::RowChange;
 use crate::rule::Rule;
+use crate::rule_id::RuleId;
 use crate::rules::Rules;
+use crate::selector::Selector;
+use crate::tally::{refused, tallied};
+use crate::touched::Touched;
 use fact_values::Facts;
 use policy_model::limits::MOST_RULES;
 use req_tree::Subject;
@@ -28,8 +37,8 @@ pub struct Table {
 }
 
 impl Model for Table {
-    ghost use Rattle.std.specs.Prelude.{List, ◌≤◌, length};
-    ghost use Rattle.policy_model.specs.declared.limits.TheConstants.{MOST_RULES};
+    ghost use Rattle.std.specs.Prelude.{List};
+    ghost use Rattle.authority_table.specs.Held.{IsHeld};
     ghost use Rattle.std.specs.Coded.{coded_list};
     ghost use Rattle.authority_table.specs.declared.rule.Rule.{Rule};
     ghost use Rattle.authority_table.specs.contracts.rule.Rule as rule_contract;
@@ -40,11 +49,20 @@ impl Model for Table {
 
     ghost view = { λ t. t.rules.items };
 
-    ghost invariant = { λ t. length t.rules.items ≤ MOST_RULES };
+    ghost invariant = { λ t. IsHeld t.rules };
 }
 
 impl Table {
-    ghost use Rattle.authority_table.specs.Found.{IsFound};
+    ghost use Rattle.std.specs.List.{find, list_any};
+    ghost use Rattle.std.specs.Option.{option_or};
+    ghost use Rattle.policy_model.specs.Contents.{NewRow, add, disable};
+    ghost use Rattle.policy_model.specs.Changes.{selects, rows_after, touched_by};
+    ghost use Rattle.policy_model.specs.Refusals.{full_rows, least_id, refused_by_rows, refused_by_count};
+    ghost use Rattle.authority_table.specs.declared.fault.PlanFault.TheVariants.{OutOfMemory};
+    ghost use Rattle.authority_table.specs.Rule.{row_of};
+    ghost use Rattle.authority_table.specs.Found.{IsFound, row_found};
+    ghost use Rattle.authority_table.specs.Selector.{selector_of, content_by};
+    ghost use Rattle.authority_table.specs.Prepared.{refusal_in, IsPlanFor, planned, IsPlan};
 
     pub fn new(alloc: Global) -> Table
         ensures { result ≡ [] }
@@ -74,8 +92,85 @@ impl Table {
         ensures ok { OnOk result (self.new ≡ self.old ++ rule ∷ []) }
         ensures err { OnErr result (self.new ≡ self.old) }
     {
-        self.rules.push(rule)?;
-        Ok(())
+        pushed(&mut self.rules, rule)
+    }
+
+    /// The rule of a number.
+    pub fn rule(&self, id: RuleId) -> Option<&Rule>
+        ensures { row_found result ≡ find (λ r. r.id == id) (rows_of self.now) }
+    {
+        rule_of(&self.rules, id)
+    }
+
+    /// Whether some rule is selected.
+    pub fn selects(&self, selector: &Selector) -> bool
+        ensures { result ≡ list_any (selects (selector_of selector.now)) (rows_of self.now) }
+    {
+        tallied(&self.rules, selector).count > 0
+    }
+
+    /// Of the selected rules that can't be disabled once more the least number.
+    pub fn disable_full(&self, selector: &Selector) -> Option<RuleId>
+        ensures { result ≡ least_id (full_rows (disable (selector_of selector.now)) (rows_of self.now)) }
+    {
+        tallied(&self.rules, selector).full
+    }
+
+    /// Plans to add a rule behind all others, and takes the memory for it.
+    pub fn plan_insert(&self, alloc: Global, rule: Rule) -> Result<Prepared, PlanFault>
+        ensures refused { (new : NewRow) → refusal_in result ≡ refused_by_rows (add new) (rows_of self.now) }
+        ensures planned { IfOk result (λ plan. IsPlan plan (rows_of self.now) (rows_of self.now ++ row_of rule ∷ []) (row_of rule ∷ [])) }
+    {
+        if self.is_full() {
+            return Err(PlanFault::TableFull);
+        }
+        let room = room_behind(alloc, self.rules.len())?;
+        let touched = Touched::none().with(&rule);
+        Ok(Prepared {
+            step: Step::Insert { rule, room },
+            touched,
+            count: 1,
+        })
+    }
+
+    /// Plans to change the selected rules. Such a plan takes no memory yet.
+    pub fn plan_change(
+        &self,
+        _alloc: Global,
+        selector: &Selector,
+        change: RowChange,
+    ) -> Result<Prepared, PlanFault>
+        ensures refused { refusal_in result ≡ option_or (refused_by_rows (content_by selector.now change) (rows_of self.now)) (refused_by_count (content_by selector.now change) (rows_of self.now)) }
+        ensures memory { IfErr result (λ fault. fault ≢ OutOfMemory) }
+        ensures planned { (n : ℕ) → IfOk result (λ plan. IsPlan plan (rows_of self.now) (rows_after n (content_by selector.now change) (rows_of self.now))
+            (touched_by n (content_by selector.now change) (rows_of self.now))) }
+    {
+        let tally = tallied(&self.rules, selector);
+        match refused(&tally, &change) {
+            Some(fault) => Err(fault),
+            None => Ok(Prepared {
+                step: Step::Change {
+                    selector: selector.copied(),
+                    change,
+                },
+                touched: tally.touched,
+                count: tally.count,
+            }),
+        }
+    }
+
+    /// Makes a planned edit; it takes no memory. The table holds the rules for which it was planned.
+    pub fn commit(&mut self, plan: Prepared)
+        requires { IsPlanFor plan (rows_of self.old) }
+        ensures { rows_of self.new ≡ planned plan (rows_of self.old) }
+    {
+        let Prepared { step, .. } = plan;
+        match step {
+            Step::Insert { rule, room } => changes::insert(&mut self.rules, rule, room),
+            Step::Change { selector, change } => {
+                changes::change(&mut self.rules, &selector, &change)
+            }
+        }
     }
 
     /// The rules of a kind in the order in which they are tried: a copy that later changes of the table don't touch.
@@ -125,4 +220,18 @@ fn copies(alloc: Global, rules: &[Rule], kind: Kind) -> Result<Rules, AllocError
         }
     }
     Ok(copies)
+}
+
+ghost use Rattle.std.specs.List.{find};
+ghost use Rattle.authority_table.specs.Found.{row_found};
+
+fn rule_of(rules: &[Rule], id: RuleId) -> Option<&Rule>
+    ensures { row_found result ≡ find (λ r. r.id == id) (rows_of rules.now) }
+{
+    for rule in rules {
+        if rule.id == id {
+            return Some(rule);
+        }
+    }
+    None
 }

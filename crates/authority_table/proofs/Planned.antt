@@ -1,0 +1,95 @@
+-- Plans, and what they leave.
+use Rattle.std.proofs.Common.{◌≡◌, ◌≢◌, ℕ, ◌+◌, ◌<◌, ◌≤◌, length, List, [], ◌∷◌, ◌++◌, length-append, refl, sym, ap, ◌∙◌, subst, arith}
+use Rattle.std.specs.Prelude.{Bool, true, false, nat_lt, max, map, Option, Some, None, option_map, if◌then◌else◌, vec_capacity}
+use Rattle.std.specs.declared.vec.Vec.{Vec}
+use Rattle.std.specs.declared.alloc.Global.{Global}
+use Rattle.std.specs.Option.{option_or}
+use Rattle.std.proofs.lemmas.Bool.Decides.{nat_tests}
+use Rattle.std.proofs.lemmas.List.{length-map, map-append}
+use Rattle.policy_model.specs.declared.limits.TheConstants.{MOST_RULES}
+use Rattle.policy_model.specs.Rules.{Row, Kind, same_kind, rank_of, first}
+use Rattle.policy_model.specs.Contents.{NewRow, Selector, Content, add, remove, enable, disable, expire}
+use Rattle.policy_model.specs.Changes.{rows_after, touched_by}
+use Rattle.policy_model.specs.Tables.{Answer, table_full}
+use Rattle.policy_model.specs.Refusals.{full_rows, least_id, refused_by_rows, refused_by_count}
+use Rattle.authority_table.specs.declared.rule.Rule.{Rule}
+use Rattle.authority_table.specs.declared.tally.Tally.{Tally}
+use Rattle.authority_table.specs.declared.touched.Touched.{Touched}
+use Rattle.authority_table.specs.declared.selector.Selector as code
+use Rattle.authority_table.specs.declared.row_change.RowChange.{RowChange}
+use Rattle.authority_table.specs.declared.row_change.RowChange.TheVariants.{Remove, Enable, Disable, Expire}
+use Rattle.authority_table.specs.declared.prepared.Step.{Step}
+use Rattle.authority_table.specs.declared.prepared.Step.TheVariants.{Insert, Change}
+use Rattle.authority_table.specs.declared.prepared.Prepared.{Prepared}
+use Rattle.authority_table.specs.Rule.{row_of, rows_of}
+use Rattle.authority_table.specs.Rooms.{room_for}
+use Rattle.authority_table.specs.Held.{IsHeld}
+use Rattle.authority_table.specs.Touched.{IsTouched}
+use Rattle.authority_table.specs.Tally.{IsTally}
+use Rattle.authority_table.specs.Selector.{selector_of, content_by}
+use Rattle.authority_table.specs.Prepared.{HasRoom, Takes, stepped, IsPlanFor, planned, IsPlan}
+use Rattle.authority_table.proofs.RoomFor.{room_grows}
+use Rattle.authority_table.proofs.TallyGoesOn.{none_full, rows_by, touched_rows}
+
+-- a full table refuses one more, and no other does
+pub full_refuses : (rules : List Rule) (n : NewRow) → length rules ≡ MOST_RULES → Some table_full ≡ refused_by_rows (add n) (rows_of rules)
+full_refuses rules n e =
+    let lt : nat_lt (length (rows_of rules)) MOST_RULES ≡ false = grind (arith, nat_tests, e, length-map rules row_of) in
+    ap (λ b. if b then None else Some table_full) (sym lt)
+
+pub room_takes : (rules : List Rule) (n : NewRow) → length rules < MOST_RULES → None ≡ refused_by_rows (add n) (rows_of rules)
+room_takes rules n h =
+    let lt : nat_lt (length (rows_of rules)) MOST_RULES ≡ true = grind (arith, nat_tests, h, length-map rules row_of) in
+    ap (λ b. if b then None else Some table_full) (sym lt)
+
+-- a rule that is added
+pub plan_of_insert : (rules : List Rule) (rule : Rule) (room : Vec Rule Global) (t : Touched) → HasRoom (length rules) room → IsTouched (row_of rule ∷ []) t →
+    IsPlan (record { step = Insert rule room; touched = t; count = 1 }) (rows_of rules) (rows_of rules ++ row_of rule ∷ []) (row_of rule ∷ [])
+plan_of_insert rules rule room t h touched = record {
+  fits = subst (λ n. HasRoom n room) (sym (length-map rules row_of)) h;
+  leaves = refl;
+  count = refl;
+  first_in = touched;
+}
+
+content_same : (s t : code.Selector) (c : RowChange) → selector_of t ≡ selector_of s → content_by t c ≡ content_by s c
+content_same s t Remove e = ap remove e
+content_same s t Enable e = ap enable e
+content_same s t Disable e = ap disable e
+content_same s t (Expire end) e = ap (λ x. expire x end) e
+
+-- rules that are changed
+pub plan_of_change : (n : ℕ) (s t : code.Selector) (c : RowChange) (rows : List Row) (tally : Tally) → selector_of t ≡ selector_of s → IsTally (selector_of s) rows tally →
+    option_or (refused_by_rows (content_by s c) rows) (refused_by_count (content_by s c) rows) ≡ None →
+    IsPlan (record { step = Change t c; touched = tally.touched; count = tally.count }) rows (rows_after n (content_by s c) rows) (touched_by n (content_by s c) rows)
+plan_of_change n s t c rows tally same h passes = record {
+  fits = subst (λ x. least_id (full_rows x rows) ≡ None) (sym (content_same s t c same)) (none_full (content_by s c) rows passes);
+  leaves = ap (λ x. rows_after 0 x rows) (content_same s t c same) ∙ rows_by n s c rows;
+  count = h.count ∙ ap length (touched_rows n s c rows);
+  first_in = subst (λ l. IsTouched l tally.touched) (touched_rows n s c rows) h.touched;
+}
+
+-- what the steps need and leave
+pub insert_fits : (p : Prepared) (rule : Rule) (room : Vec Rule Global) (rules : List Rule) → p.step ≡ Insert rule room → IsPlanFor p (rows_of rules) → HasRoom (length rules) room
+insert_fits p rule room rules e h = subst (λ n. HasRoom n room) (length-map rules row_of) (subst (λ s. Takes s (rows_of rules)) e h)
+
+pub insert_leaves : (p : Prepared) (rule : Rule) (room : Vec Rule Global) (old new : List Rule) → p.step ≡ Insert rule room → new ≡ old ++ rule ∷ [] → rows_of new ≡ planned p (rows_of old)
+insert_leaves p rule room old new e is = ap rows_of is ∙ (map-append row_of old (rule ∷ []) ∙ ap (λ s. stepped s (rows_of old)) (sym e))
+
+pub change_fits : (p : Prepared) (s : code.Selector) (c : RowChange) (rows : List Row) → p.step ≡ Change s c → IsPlanFor p rows → least_id (full_rows (content_by s c) rows) ≡ None
+change_fits p s c rows e h = subst (λ x. Takes x rows) e h
+
+pub change_leaves : (p : Prepared) (s : code.Selector) (c : RowChange) (old : List Row) (new : List Row) → p.step ≡ Change s c → new ≡ rows_after 0 (content_by s c) old → new ≡ planned p old
+change_leaves p s c old new e is = is ∙ ap (λ x. stepped x old) (sym e)
+
+-- the memory stays enough
+pub held_more : (old new : Vec Rule Global) (rule : Rule) (room : Vec Rule Global) → HasRoom (length old.items) room → new.items ≡ old.items ++ rule ∷ [] → room_for (length new.items) ≤ vec_capacity new → IsHeld new
+held_more old new rule room h is held =
+    let one : length new.items ≡ length old.items + 1 = ap length is ∙ length-append old.items (rule ∷ []) in
+    record { few = omega (arith, h.few, one); held = held }
+
+pub held_fewer : (old new : Vec Rule Global) → IsHeld old → length new.items ≤ length old.items → vec_capacity new ≡ vec_capacity old → IsHeld new
+held_fewer old new h fewer same = record {
+  few = omega (arith, h.few, fewer);
+  held = omega (arith, h.held, room_grows (length new.items) (length old.items) fewer, same);
+}

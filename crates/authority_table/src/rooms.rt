@@ -1,0 +1,60 @@
+//! For how many rules a table has memory.
+
+ghost use Rattle.std.specs.Prelude.{◌≡◌, ◌<◌, ◌++◌, [], ◌∷◌, length, IfOk, OnOk, OnErr};
+ghost use Rattle.policy_model.specs.declared.limits.TheConstants.{MOST_RULES};
+ghost use Rattle.authority_table.specs.Rooms as rooms;
+
+use crate::rule::Rule;
+use policy_model::limits::MOST_RULES;
+use std::alloc::{AllocError, Global};
+
+/// The first rule of a table takes memory for so many.
+pub const FEW_RULES: usize = 64;
+
+/// One more than a few takes memory for so many; one more than these, for as many as a table may hold.
+pub const MANY_RULES: usize = 1_000;
+
+/// A table of so many rules has memory for at least so many. It grows in three steps, so few rules are ever moved.
+pub(crate) fn room_for(count: usize) -> usize
+    ensures { result ≡ rooms.room_for count }
+{
+    if count == 0 {
+        0
+    } else if count <= FEW_RULES {
+        FEW_RULES
+    } else if count <= MANY_RULES {
+        MANY_RULES
+    } else {
+        MOST_RULES
+    }
+}
+
+ghost use Rattle.authority_table.specs.Held.{IsHeld};
+ghost use Rattle.authority_table.specs.Prepared.{HasRoom};
+
+/// Memory for one rule more, where a table of so many rules may have none left; else nothing.
+pub(crate) fn room_behind(alloc: Global, count: usize) -> Result<Vec<Rule>, AllocError>
+    requires { count < MOST_RULES }
+    ensures { IfOk result (λ room. HasRoom count room) }
+{
+    let wanted = room_for(count + 1);
+    if wanted == room_for(count) {
+        Ok(Vec::new(alloc))
+    } else {
+        Vec::with_capacity(alloc, wanted)
+    }
+}
+
+/// Adds a rule behind all others; where there is no memory, the rules are as before.
+pub(crate) fn pushed(rules: &mut Vec<Rule>, rule: Rule) -> Result<(), AllocError>
+    requires held { IsHeld rules.old }
+    requires room { length rules.old.items < MOST_RULES }
+    ensures held { IsHeld rules.new }
+    ensures ok { OnOk result (rules.new.items ≡ rules.old.items ++ rule ∷ []) }
+    ensures err { OnErr result (rules.new.items ≡ rules.old.items) }
+{
+    let count = rules.len();
+    rules.reserve(room_for(count + 1) - count)?;
+    rules.push_reserved(rule);
+    Ok(())
+}
