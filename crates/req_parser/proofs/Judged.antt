@@ -51,7 +51,7 @@ bad_key_fails list (f.BadKey token) few shape first = (few, shape, first)
 bad_key_fails list f.OutOfMemory few shape first = tt
 bad_key_fails list other few shape first = absurd first
 
-syntax_is_no_want : (token : ℕ) → r.Syntax token ≢ r.OutOfMemory
+pub syntax_is_no_want : (token : ℕ) → r.Syntax token ≢ r.OutOfMemory
 syntax_is_no_want token e = cc
 
 pub reading_fails : OperandsAreRead → ParenthesesBalance → (list : List Terminal) (fault : ReadingFault) → HasFewOpen list → IsFault (whole_at list) fault
@@ -95,7 +95,7 @@ behind_found text list x are is = record {
   shallow = is.shallow;
 }
 
-no_tokens : FaultyTextsHaveNoTokens → (text : List ℕ) (fault : TextFault) (tokens : List Token) → fault ≢ f.OutOfMemory → FailsTokens text fault → HasTokens text tokens → ⊥
+pub no_tokens : FaultyTextsHaveNoTokens → (text : List ℕ) (fault : TextFault) (tokens : List Token) → fault ≢ f.OutOfMemory → FailsTokens text fault → HasTokens text tokens → ⊥
 no_tokens none text f.OutOfMemory tokens other fails has = other refl
 no_tokens none text f.TextTooLong tokens other fails has = let short : length text ≤ _ = has.short in absurd (omega (arith, short, fails))
 no_tokens none text (f.BadByte at) tokens other (short, fails) has = none 0 at text _ tokens fails has.tokens_are
@@ -124,7 +124,7 @@ abbrev is_memory : TextFault → Bool
 is_memory f.OutOfMemory = true
 is_memory other = false
 
-memory_or_not : (fault : TextFault) → (fault ≡ f.OutOfMemory) ⊎ (fault ≢ f.OutOfMemory)
+pub memory_or_not : (fault : TextFault) → (fault ≡ f.OutOfMemory) ⊎ (fault ≢ f.OutOfMemory)
 memory_or_not f.OutOfMemory = inl refl
 memory_or_not other = inr (λ h. true≢false (sym (ap is_memory h)))
 

@@ -7,3 +7,9 @@ pub mod Outcomes
 pub mod OpenFronts
 pub mod Judged
 pub mod KeyPlaces
+pub mod Repeats
+pub mod PartLoops
+pub mod SetMade
+pub mod SetSound
+pub mod SetRead
+pub mod SetJudged

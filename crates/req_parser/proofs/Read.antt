@@ -17,7 +17,7 @@ use Rattle.req_parser.specs.Reading.{and_at, or_at, joined_at, behind, chain_fro
 use Rattle.req_parser.proofs.Counts.{NestsWithin, IsBalanced, nests_front, nests_behind, nests_inside, nests_some}
 use Rattle.req_parser.proofs.Bangs.{factor_bang}
 
-abbrev read : Tree → List Terminal → Reading Tree
+abbrev pub read : Tree → List Terminal → Reading Tree
 read x rest = Ok (x, rest)
 
 -- a factor is read whole, where something stands behind it that stops
@@ -85,11 +85,11 @@ close_no_or : (rest : List Terminal) → or_at (sign w.right_paren ∷ rest) ≡
 unfolding or_at
 close_no_or rest = refl
 
-end_no_and : and_at [] ≡ None
+pub end_no_and : and_at [] ≡ None
 unfolding and_at
 end_no_and = refl
 
-end_no_or : or_at [] ≡ None
+pub end_no_or : or_at [] ≡ None
 unfolding or_at
 end_no_or = refl
 
@@ -229,7 +229,7 @@ module _ (operands : OperandsAreRead) (balance : ParenthesesBalance) where
     factor_begins a x (g.paren b y h) = with_sign w.left_paren _
     factor_begins a x (g.primary b y h) = primary_begins b y (operands b y h)
 
-  expr_balanced : (a : List Terminal) (x : Tree) → Expr AnyKey a x → IsBalanced a
+  pub expr_balanced : (a : List Terminal) (x : Tree) → Expr AnyKey a x → IsBalanced a
   expr_balanced a x h = balance a (x, h)
 
   mutual

@@ -16,10 +16,10 @@ use Rattle.req_parser.specs.Reading.{and_at, or_at, joined_at, behind, chain_fro
 use Rattle.req_parser.proofs.Bangs.{factor_bang}
 
 -- what was read is a front of the list, and the rest is left
-record Front (R : List Terminal → Tree → Type 0) (here : List Terminal) (p : Tree × List Terminal) : Type 0 where
-  front : List Terminal
-  parts : here ≡ front ++ p.1
-  is : R front p.0
+pub record Front (R : List Terminal → Tree → Type 0) (here : List Terminal) (p : Tree × List Terminal) : Type 0 where
+  pub front : List Terminal
+  pub parts : here ≡ front ++ p.1
+  pub is : R front p.0
 
 abbrev is_fine : {A : Type 0} → Result A ReadingFault → Bool
 is_fine (Ok x) = true
@@ -39,7 +39,7 @@ found : (R : List Terminal → Tree → Type 0) (here front : List Terminal) (v 
     → here ≡ front ++ rest → R front v → ◌≡◌ {A = Reading Tree} (Ok (v, rest)) (Ok p) → Front R here p
 found R here front v rest p parts is e = subst (λ q. Front R here q) (ok_is (v, rest) p e) (record { front = front; parts = parts; is = is })
 
-bind_ok : {A B : Type 0} (o : Result A ReadingFault) (f : A → Result B ReadingFault) (p : B) → (o >>= f) ≡ Ok p → (q : A) × (o ≡ Ok q) × (f q ≡ Ok p)
+pub bind_ok : {A B : Type 0} (o : Result A ReadingFault) (f : A → Result B ReadingFault) (p : B) → (o >>= f) ≡ Ok p → (q : A) × (o ≡ Ok q) × (f q ≡ Ok p)
 bind_ok (Ok q) f p e = (q, refl, e)
 bind_ok (Err fault) f p e = absurd (err_ok fault p e)
 
@@ -90,7 +90,7 @@ chain_sound op first op_is join item R S grow item_is (suc n) whole a here x p p
 abbrev AnyTerm : List Terminal → Tree → Type 0
 AnyTerm a x = Term AnyKey a x
 
-abbrev AnyExpr : List Terminal → Tree → Type 0
+abbrev pub AnyExpr : List Terminal → Tree → Type 0
 AnyExpr a x = Expr AnyKey a x
 
 abbrev AnyFactor : List Terminal → Tree → Type 0
@@ -182,6 +182,10 @@ module _ (operands : WhatIsReadIsAnOperand) where
       let inside_is = inside_sound size d in
       expr_sound size (inside_at size d) (λ l q h. factor_sound size (inside_at size d) inside_is l q h) here p e
 
+  -- an expression is read from the front
+  pub expr_front : (size d : ℕ) (here : List Terminal) (p : Tree × List Terminal) → expr_at size (inside_at size d) here ≡ Ok p → Front AnyExpr here p
+  expr_front size d here p e = expr_sound size (inside_at size d) (λ l r h. factor_sound size (inside_at size d) (inside_sound size d) l r h) here p e
+
   ended_is : (size : ℕ) (p : Tree × List Terminal) (x : Tree) → ended size p ≡ Ok x → p ≡ (x, [])
   ended_is size (y, []) x e = ap (λ (z : Tree). let q : Tree × List Terminal = (z, []) in q) (ok_is y x e)
   ended_is size (y, first ∷ rest) x e = absurd (err_ok _ x e)
@@ -194,6 +198,5 @@ module _ (operands : WhatIsReadIsAnOperand) where
       let same : q.0 ≡ (x, []) = ended_is (length a) q.0 x q.2 in
       let f : Front AnyExpr a (x, []) =
       subst (λ (r : Tree × List Terminal). Front AnyExpr a r) same
-      (expr_sound (length a) (inside_at (length a) MOST_OPEN_PARENTHESES)
-      (λ l r h. factor_sound (length a) (inside_at (length a) MOST_OPEN_PARENTHESES) (inside_sound (length a) MOST_OPEN_PARENTHESES) l r h) a q.0 q.1) in
+      (expr_front (length a) MOST_OPEN_PARENTHESES a q.0 q.1) in
       subst (λ (l : List Terminal). Expr AnyKey l x) (sym (append-nil f.front) ∙ sym f.parts) f.is

@@ -3,3 +3,8 @@ pub mod Given
 pub mod Open
 pub mod BadKeys
 pub mod Failures
+pub mod Kinds
+pub mod SetReading
+pub mod GivenParts
+pub mod Gathering
+pub mod SetFailures

@@ -73,7 +73,7 @@ fn requirement_of<'a>(alloc: Global, list: Rest<'a>) -> Result<Req, TextFault>
     }
 }
 
-fn fault_of(fault: ReadingFault) -> TextFault
+pub(crate) fn fault_of(fault: ReadingFault) -> TextFault
     ensures { result ≡ text_fault_of fault }
 {
     match fault {
