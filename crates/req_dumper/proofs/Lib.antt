@@ -1,3 +1,4 @@
 mod WordLengths
 mod Digits
 mod DottedRuns
+mod Escapes

@@ -77,8 +77,19 @@ fn put_quoted(out: &mut Vec<u8>, bytes: &[u8]) -> Result<(), AllocError>
     put(out, b"\"")
 }
 
-/// Appends bytes with a backslash before each quote.
+/// Appends bytes with a backslash before each quote; all at once where there is none.
+#[tactic(auto, using(crate::proofs::Escapes::nothing_escaped))]
 fn put_escaped(out: &mut Vec<u8>, bytes: &[u8]) -> Result<(), AllocError>
+    ensures { OnOk result (out.new.items ≡ out.old.items ++ flat_map escaped bytes.now) }
+{
+    if bytes.contains(&b'"') {
+        put_each(out, bytes)
+    } else {
+        put(out, bytes)
+    }
+}
+
+fn put_each(out: &mut Vec<u8>, bytes: &[u8]) -> Result<(), AllocError>
     ensures { OnOk result (out.new.items ≡ out.old.items ++ flat_map escaped bytes.now) }
 {
     for byte in bytes {
@@ -127,7 +138,9 @@ fn put_twenty(out: &mut Vec<u8>, hash: &[u8]) -> Result<(), AllocError>
     ensures text { OnOk result (out.new.items ≡ out.old.items ++ hash_text hash.now) }
     ensures kept { IsHash hash.now }
 {
+    let mut digits = [0; 40];
+    let _ = hex::encode_to_slice(hash, &mut digits);
     put(out, b"H\"")?;
-    put_digits(out, hash)?;
+    put(out, &digits)?;
     put(out, b"\"")
 }
