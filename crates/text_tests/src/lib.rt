@@ -8,6 +8,8 @@ mod refusals;
 #[cfg(test)]
 mod rows;
 #[cfg(test)]
+mod sets;
+#[cfg(test)]
 mod texts;
 #[cfg(test)]
 mod token_rows;

@@ -15,8 +15,8 @@ fn push_times(text: &mut Vec<u8>, piece: &[u8], times: usize) -> Result<(), Allo
     Ok(())
 }
 
-// The front so many times, the middle, and the back so many times.
-fn around(
+/// The front so many times, the middle, and the back so many times.
+pub fn around(
     alloc: Global,
     front: &[u8],
     middle: &[u8],
