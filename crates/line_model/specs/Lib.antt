@@ -1,0 +1,11 @@
+pub mod WordTexts
+pub mod Words
+pub mod LineFaults
+pub mod Left
+pub mod Forms
+pub mod Subjects
+pub mod Selectors
+pub mod Fronts
+pub mod Requirements
+pub mod Contents
+pub mod Edits
