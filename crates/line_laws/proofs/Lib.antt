@@ -1,0 +1,13 @@
+mod Bytes
+mod Numbers
+mod Priorities
+mod NoSpaces
+mod Steps
+mod OtherWords
+mod FrontsBack
+mod SelectorsBack
+mod ContentsBack
+mod Lengths
+mod LinesBack
+mod OneContent
+mod PrintedWords

@@ -1,0 +1,33 @@
+-- What is read back of a line; each is proved on a function of src/laws.rt.
+use Rattle.std.specs.Prelude.{◌≡◌, ◌≢◌, ℕ, List, [], All, true, Ok}
+use Rattle.policy_model.specs.Keys.{is_key}
+use Rattle.policy_model.specs.Contents.{Content, Edit}
+use Rattle.policy_model.specs.Texts.{content_text}
+use Rattle.line_model.specs.Words.{words, spaced}
+use Rattle.line_model.specs.Edits.{IsContentLine, IsEditLine}
+use Rattle.line_laws.specs.Limits.{FitsLine}
+use Rattle.line_laws.specs.EditTexts.{edit_text}
+
+-- words without spaces that are joined by spaces are the words of that line
+abbrev pub WordsReadBack : Type 0
+WordsReadBack = (pieces : List (List ℕ)) → pieces ≢ [] → All (λ piece. All (λ b. b ≢ 32) piece) pieces → words (spaced pieces) ≡ pieces
+
+-- the text of a content asks for that content
+abbrev pub ContentReadsBack : Type 0
+ContentReadsBack = (c : Content) → FitsLine c → IsContentLine (content_text c) (Ok c)
+
+-- the line of an edit asks for that edit
+abbrev pub EditReadsBack : Type 0
+EditReadsBack = (e : Edit) → is_key e.key ≡ true → FitsLine e.content → IsEditLine (edit_text e) (Ok e)
+
+-- a text asks for one content at most
+abbrev pub TextAsksForOneContent : Type 0
+TextAsksForOneContent = (text : List ℕ) (a b : Content) → IsContentLine text (Ok a) → IsContentLine text (Ok b) → a ≡ b
+
+-- a line asks for one edit at most
+abbrev pub LineAsksForOneEdit : Type 0
+LineAsksForOneEdit = (line : List ℕ) (a b : Edit) → IsEditLine line (Ok a) → IsEditLine line (Ok b) → a ≡ b
+
+-- a canonical text is that of one content
+abbrev pub TextIsOfOneContent : Type 0
+TextIsOfOneContent = (a b : Content) → FitsLine a → FitsLine b → content_text a ≡ content_text b → a ≡ b

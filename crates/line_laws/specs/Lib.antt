@@ -1,0 +1,4 @@
+pub mod Limits
+pub mod EditTexts
+pub mod WordLaws
+pub mod Laws
