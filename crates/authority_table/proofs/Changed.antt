@@ -1,12 +1,12 @@
 -- Rules that are changed in place, one after the other.
-use Rattle.std.proofs.Common.{◌≡◌, ◌≢◌, ◌-◌, ℕ, zero, suc, ◌+◌, ◌<◌, ◌≤◌, length, take, drop, get_or, set, List, [], ◌∷◌, ◌++◌, refl, sym, ap, ◌∙◌, subst, arith}
-use Rattle.std.specs.Prelude.{Bool, true, false, cond, map, nat_le, ◌&&◌, Option, Some, None, if◌then◌else◌}
+use Rattle.std.proofs.Common.{◌≡◌, ◌≢◌, ◌-◌, ℕ, zero, suc, ◌+◌, ◌<◌, length, take, drop, get_or, set, List, [], ◌∷◌, ◌++◌, refl, sym, ap, ◌∙◌, subst, arith}
+use Rattle.std.specs.Prelude.{Bool, true, false, cond, map, nat_le, ◌&&◌, None, if◌then◌else◌}
 use Rattle.std.specs.List.{filter}
 use Rattle.std.proofs.lemmas.List.{map-set, length-map, length-take-le, get_or-map, get_or-drop, get_or-append_right}
 use Rattle.std.proofs.lemmas.List.Edits.{map_over_more}
 use Rattle.policy_model.specs.declared.limits.TheConstants.{MOST_DISABLES}
 use Rattle.policy_model.specs.Rules.{Row}
-use Rattle.policy_model.specs.Contents.{Selector, Content, add, remove, enable, disable, expire, switch}
+use Rattle.policy_model.specs.Contents.{Content, add, remove, enable, disable, expire, switch}
 use Rattle.policy_model.specs.Changes.{selects, change, rows_after}
 use Rattle.policy_model.specs.Refusals.{full_rows, least_id}
 use Rattle.authority_table.specs.declared.rule.Rule.{Rule}

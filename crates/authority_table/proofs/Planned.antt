@@ -1,16 +1,16 @@
 -- Plans, and what they leave.
-use Rattle.std.proofs.Common.{◌≡◌, ◌≢◌, ℕ, ◌+◌, ◌<◌, ◌≤◌, length, List, [], ◌∷◌, ◌++◌, length-append, refl, sym, ap, ◌∙◌, subst, arith}
-use Rattle.std.specs.Prelude.{Bool, true, false, nat_lt, max, map, Option, Some, None, option_map, if◌then◌else◌, vec_capacity}
+use Rattle.std.proofs.Common.{◌≡◌, ℕ, ◌+◌, ◌<◌, ◌≤◌, length, List, [], ◌∷◌, ◌++◌, length-append, refl, sym, ap, ◌∙◌, subst, arith}
+use Rattle.std.specs.Prelude.{true, false, nat_lt, Some, None, if◌then◌else◌, vec_capacity}
 use Rattle.std.specs.declared.vec.Vec.{Vec}
 use Rattle.std.specs.declared.alloc.Global.{Global}
 use Rattle.std.specs.Option.{option_or}
 use Rattle.std.proofs.lemmas.Bool.Decides.{nat_tests}
 use Rattle.std.proofs.lemmas.List.{length-map, map-append}
 use Rattle.policy_model.specs.declared.limits.TheConstants.{MOST_RULES}
-use Rattle.policy_model.specs.Rules.{Row, Kind, same_kind, rank_of, first}
-use Rattle.policy_model.specs.Contents.{NewRow, Selector, Content, add, remove, enable, disable, expire}
+use Rattle.policy_model.specs.Rules.{Row}
+use Rattle.policy_model.specs.Contents.{NewRow, add, remove, enable, disable, expire}
 use Rattle.policy_model.specs.Changes.{rows_after, touched_by}
-use Rattle.policy_model.specs.Tables.{Answer, table_full}
+use Rattle.policy_model.specs.Tables.{table_full}
 use Rattle.policy_model.specs.Refusals.{full_rows, least_id, refused_by_rows, refused_by_count}
 use Rattle.authority_table.specs.declared.rule.Rule.{Rule}
 use Rattle.authority_table.specs.declared.tally.Tally.{Tally}
@@ -18,7 +18,6 @@ use Rattle.authority_table.specs.declared.touched.Touched.{Touched}
 use Rattle.authority_table.specs.declared.selector.Selector as code
 use Rattle.authority_table.specs.declared.row_change.RowChange.{RowChange}
 use Rattle.authority_table.specs.declared.row_change.RowChange.TheVariants.{Remove, Enable, Disable, Expire}
-use Rattle.authority_table.specs.declared.prepared.Step.{Step}
 use Rattle.authority_table.specs.declared.prepared.Step.TheVariants.{Insert, Change}
 use Rattle.authority_table.specs.declared.prepared.Prepared.{Prepared}
 use Rattle.authority_table.specs.Rule.{row_of, rows_of}

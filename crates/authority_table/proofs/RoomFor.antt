@@ -1,5 +1,5 @@
 -- Memory for so many rules.
-use Rattle.std.proofs.Common.{◌≡◌, ℕ, ◌+◌, ◌<◌, ◌≤◌, arith}
+use Rattle.std.proofs.Common.{ℕ, ◌≤◌, arith}
 use Rattle.std.proofs.lemmas.Bool.Decides.{nat_tests}
 use Rattle.policy_model.specs.declared.limits.TheConstants.{MOST_RULES}
 use Rattle.authority_table.specs.Rooms.{room_for}

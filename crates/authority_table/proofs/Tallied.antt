@@ -1,17 +1,15 @@
 -- A tally of the selected rows that goes on by one more row, and what it says of refusals.
-use Rattle.std.proofs.Common.{◌≡◌, ℕ, zero, suc, ◌+◌, ◌<◌, ◌≤◌, length, List, [], ◌∷◌, ◌++◌, append-nil, length-append, refl, sym, ap, ◌∙◌, subst, arith}
-use Rattle.std.specs.Prelude.{Bool, true, false, cond, ◌&&◌, ◌||◌, nat_lt, nat_le, min, Option, Some, None, option_map, if◌then◌else◌}
+use Rattle.std.proofs.Common.{◌≡◌, ℕ, suc, ◌≤◌, length, List, [], ◌∷◌, ◌++◌, append-nil, refl, ap, ◌∙◌, arith}
+use Rattle.std.specs.Prelude.{Bool, true, false, cond, ◌&&◌, ◌||◌, nat_lt, nat_le, Option, Some, None}
 use Rattle.std.specs.List.{filter, list_any}
-use Rattle.std.specs.Option.{option_or}
 use Rattle.std.proofs.lemmas.Bool.Decides.{nat_tests}
 use Rattle.std.proofs.lemmas.List.Elements.{filter-append}
 use Rattle.policy_model.specs.Rules.{Row}
 use Rattle.policy_model.specs.Outcomes.{at_most}
-use Rattle.policy_model.specs.Contents.{Selector, Content, add, remove, enable, disable, expire, switch}
-use Rattle.policy_model.specs.Changes.{selects, rows_after, touched_by, change}
+use Rattle.policy_model.specs.Contents.{Selector, disable}
+use Rattle.policy_model.specs.Changes.{selects}
 use Rattle.policy_model.specs.declared.limits.TheConstants.{MOST_DISABLES}
-use Rattle.policy_model.specs.Tables.{Answer, no_rule, disable_full}
-use Rattle.policy_model.specs.Refusals.{full_rows, least_id, refused_by_rows, refused_by_count, none_selected}
+use Rattle.policy_model.specs.Refusals.{full_rows, least_id}
 
 -- the kept rows, where the last one passes or doesn't
 pub filter_last : (test : Row → Bool) (rows : List Row) (r : Row) → test r ≡ true → filter test (rows ++ r ∷ []) ≡ filter test rows ++ r ∷ []

@@ -1,13 +1,13 @@
 -- A tally that goes on by one more row, and what it says of a refusal.
 use Rattle.std.proofs.Common.{◌≡◌, ◌≢◌, ℕ, ◌+◌, ◌<◌, ◌≤◌, length, take, get_or, List, [], ◌∷◌, ◌++◌, length-append, refl, sym, ap, ◌∙◌, subst, arith}
-use Rattle.std.specs.Prelude.{Bool, true, false, nat_lt, nat_le, map, Option, Some, None, option_map, if◌then◌else◌}
+use Rattle.std.specs.Prelude.{true, false, nat_lt, Option, Some, None, option_map, if◌then◌else◌}
 use Rattle.std.specs.List.{filter, list_any}
 use Rattle.std.specs.Option.{option_or}
 use Rattle.std.proofs.lemmas.Bool.Decides.{nat_tests}
 use Rattle.std.proofs.lemmas.List.{map_more, length-map}
 use Rattle.policy_model.specs.Rules.{Row}
-use Rattle.policy_model.specs.Contents.{Selector, Content, add, remove, enable, disable, expire, switch}
-use Rattle.policy_model.specs.Changes.{selects, rows_after, touched_by, change}
+use Rattle.policy_model.specs.Contents.{Selector, Content, disable}
+use Rattle.policy_model.specs.Changes.{selects, rows_after, touched_by}
 use Rattle.policy_model.specs.Tables.{Answer, no_rule, disable_full}
 use Rattle.policy_model.specs.Refusals.{full_rows, least_id, refused_by_rows, refused_by_count, none_selected}
 use Rattle.authority_table.specs.declared.rule.Rule.{Rule}
@@ -19,7 +19,6 @@ use Rattle.authority_table.specs.Rule.{row_of, rows_of}
 use Rattle.authority_table.specs.Touched.{IsTouched}
 use Rattle.authority_table.specs.Tally.{IsTally}
 use Rattle.authority_table.specs.Selector.{selector_of, content_by}
-use Rattle.authority_table.specs.Changes.{changed_by}
 use Rattle.authority_table.proofs.Tallied.{filter_last, filter_passed, unselected_passed, filter_fewer, any_kept}
 
 -- the row is selected

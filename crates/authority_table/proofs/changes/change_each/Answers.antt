@@ -1,7 +1,6 @@
-use Rattle.std.proofs.Common.{rules, ◌≡◌, ◌<◌, length, ◌∙◌, refl, sym, ap, arith}
+use Rattle.std.proofs.Common.{rules, ◌<◌, length, arith}
 use Rattle.std.specs.Prelude.{if◌then◌else◌}
 use Rattle.std.proofs.lemmas.List.{length-map}
-use Rattle.policy_model.specs.Rules.{Row}
 use Rattle.policy_model.specs.Changes.{selects}
 use Rattle.authority_table.specs.Rule.{row_of, rows_of}
 use Rattle.authority_table.specs.Selector.{selector_of, content_by}

@@ -1,4 +1,4 @@
-use Rattle.std.proofs.Common.{rules, ◌<◌, sym, ◌∙◌, arith}
+use Rattle.std.proofs.Common.{◌<◌, sym, ◌∙◌, arith}
 use Rattle.std.specs.Prelude.{Some, None}
 use Rattle.authority_table.proofs.TallyGoesOn.{refused_none, refused_by}
 use Rattle.authority_table.proofs.tally.refused.Goals as goal

@@ -1,5 +1,4 @@
 use Rattle.std.proofs.Common.{rules, ◌≡◌, ◌≤◌, length, take, length-take-le, arith}
-use Rattle.authority_table.specs.Rule.{row_of, rows_of}
 use Rattle.authority_table.specs.Selector.{selector_of}
 use Rattle.authority_table.proofs.TallyGoesOn.{tally_further, tally_fewer}
 use Rattle.authority_table.proofs.tally.tallied.Goals as goal

@@ -1,4 +1,4 @@
-use Rattle.std.proofs.Common.{rules, sym, ◌∙◌}
+use Rattle.std.proofs.Common.{sym, ◌∙◌}
 use Rattle.authority_table.specs.Rule.{row_of}
 use Rattle.authority_table.specs.Selector.{selector_of}
 use Rattle.authority_table.proofs.TallyGoesOn.{tally_passed}

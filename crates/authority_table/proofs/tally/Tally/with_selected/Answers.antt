@@ -1,4 +1,4 @@
-use Rattle.std.proofs.Common.{rules, refl}
+use Rattle.std.proofs.Common.{refl}
 use Rattle.authority_table.specs.Rule.{row_of}
 use Rattle.authority_table.proofs.TallyGoesOn.{tally_last}
 use Rattle.authority_table.proofs.tally.Tally.with_selected.Goals as goal
