@@ -1,11 +1,11 @@
 -- A text or a blob is taken or refused, and never both.
-use Rattle.std.proofs.Common.{◌≡◌, ℕ, ◌<◌, ◌⊎◌, Bool, true, false, List, length, inl, inr, arith, refl, sym, ap, ◌∙◌, subst}
-use Rattle.req_tree.specs.Tree.{Tree}
-use Rattle.req_blob.specs.Spelling.{plain_blob}
+use Rattle.std.proofs.Common.{◌≡◌, ℕ, ◌⊎◌, Bool, true, false, List, inl, inr, refl, sym, ◌∙◌}
 use Rattle.run_status.specs.declared.status.Status.{Status}
 use Rattle.run_status.specs.declared.status.Status.TheVariants.{Fine, Denied, Usage, ReadFault, WriteFault, ShelfFault, ClockFault, FileMissing, FileTooLong, Refused, SessionTooLong, OutOfMemory}
 use Rattle.language_commands.specs.Taken.{TakenOrRefused}
-use Rattle.language_commands.specs.Compiling.{Compiles, SaysOfText, IsBlob, RefusesTree, RefusesCompile}
+use Rattle.language_commands.specs.Compiling.{Compiles, SaysOfText, IsBlob, RefusesText}
+use Rattle.req_ops.specs.SetEncoding.{IsPlainSet}
+use Rattle.language_commands.specs.CompilingSets.{CompilesSet, SaysOfSetText, RefusesSetText}
 use Rattle.language_commands.specs.Dumping.{Dumps, DumpsBy, SaysTree, RefusesBlob, SaysSet, begins_as_set}
 use Rattle.language_commands.specs.Dumping as dumping
 
@@ -36,17 +36,17 @@ one : (Takes Refuses : List ℕ → Type 0) (never : (said other : List ℕ) →
     → TakenOrRefused Takes Refuses first said → TakenOrRefused Takes Refuses second other → first ≡ second
 one Takes Refuses never first second said other a b = joined Takes Refuses never first second said other (two Takes Refuses first said a) (two Takes Refuses second other b)
 
-short_or_long : (tree other : Tree) (said line : List ℕ) → tree ≡ other → IsBlob tree said → RefusesTree other line → ⊥
-short_or_long tree other said line is a b =
-    let same : length said ≡ length (plain_blob other) = ap length a.0 ∙ ap (λ t. length (plain_blob t)) is in
-    omega (arith, same, a.1, b.1)
-
-compile_never : (text said other : List ℕ) → SaysOfText IsBlob text said → RefusesCompile text other → ⊥
-compile_never text said other a (inl b) = b.none a.tree a.is_text
-compile_never text said other a (inr b) = short_or_long a.tree b.tree said other (b.only a.tree a.is_text) a.says b.says
+compile_never : (text said other : List ℕ) → SaysOfText IsBlob text said → RefusesText text other → ⊥
+compile_never text said other a b = b.none a.tree a.is_text
 
 pub compile_one : (text said other : List ℕ) (first second : Status) → Compiles text first said → Compiles text second other → first ≡ second
-compile_one text said other first second a b = one (SaysOfText IsBlob text) (RefusesCompile text) (compile_never text) first second said other a b
+compile_one text said other first second a b = one (SaysOfText IsBlob text) (RefusesText text) (compile_never text) first second said other a b
+
+compile_set_never : (text said other : List ℕ) → SaysOfSetText IsPlainSet text said → RefusesSetText text other → ⊥
+compile_set_never text said other a b = b.none a.set a.is_text
+
+pub compile_set_one : (text said other : List ℕ) (first second : Status) → CompilesSet text first said → CompilesSet text second other → first ≡ second
+compile_set_one text said other first second a b = one (SaysOfSetText IsPlainSet text) (RefusesSetText text) (compile_set_never text) first second said other a b
 
 tree_never : (bytes said other : List ℕ) → SaysTree bytes said → RefusesBlob bytes other → ⊥
 tree_never bytes said other a b = b.none a.tree a.spells

@@ -1,4 +1,5 @@
 pub mod Compiling
+pub mod CompilingSets
 pub mod Dumping
 pub mod Refusals
 pub mod Taken

@@ -1,17 +1,32 @@
 -- What reading and writing again leaves in the way.
-use Rattle.std.proofs.Common.{◌≡◌, ◌≢◌, ℕ, List, length, Result, Ok, Err, sym, ◌∙◌, ◌<◌, ◌⊎◌, inl, inr}
+use Rattle.std.proofs.Common.{◌≡◌, ◌≢◌, ℕ, List, Result, Ok, Err, refl, sym, ◌∙◌, ◌<◌, ◌≤◌, ◌⊎◌, inl, inr, arith}
 use Rattle.std.specs.Result.{IfOk}
 use Rattle.req_tree.specs.Tree.{Tree}
 use Rattle.req_blob.specs.declared.fault.OpsFault.{OpsFault}
 use Rattle.req_blob.specs.declared.fault.OpsFault.TheVariants as ops
 use Rattle.req_blob.specs.declared.limits.TheConstants.{MOST_BYTES}
-use Rattle.req_blob.specs.Spelling.{plain_blob}
 
--- a refusal that isn't of memory is of length
-pub long : (why : OpsFault) (tree : Tree) → (why ≡ ops.OutOfMemory) ⊎ ((why ≡ ops.TooLong) × (MOST_BYTES < length (plain_blob tree)))
-    → why ≢ ops.OutOfMemory → (why ≡ ops.TooLong) × (MOST_BYTES < length (plain_blob tree))
-long why tree (inl e) some = absurd (some e)
-long why tree (inr h) some = h
+-- where bytes aren't too many, a refusal is of memory
+pub memory_alone : (why : OpsFault) (size : ℕ) → size ≤ MOST_BYTES → (why ≡ ops.OutOfMemory) ⊎ ((why ≡ ops.TooLong) × (MOST_BYTES < size)) → why ≡ ops.OutOfMemory
+memory_alone why size short (inl e) = e
+memory_alone why size short (inr h) = absurd (omega (arith, short, h.1))
+
+-- what can't be other than of memory is of memory
+pub sure : (why : OpsFault) → (why ≢ ops.OutOfMemory → ⊥) → why ≡ ops.OutOfMemory
+sure ops.OutOfMemory h = refl
+sure (ops.Blob b) h = absurd (h (λ e. cc))
+sure ops.BadKind h = absurd (h (λ e. cc))
+sure (ops.UnknownOp a b) h = absurd (h (λ e. cc))
+sure (ops.OutOfScopeOp a) h = absurd (h (λ e. cc))
+sure (ops.UnknownMatch a b) h = absurd (h (λ e. cc))
+sure (ops.Cut a) h = absurd (h (λ e. cc))
+sure (ops.BadPadding a) h = absurd (h (λ e. cc))
+sure (ops.BadHashLength a) h = absurd (h (λ e. cc))
+sure (ops.TooDeep a) h = absurd (h (λ e. cc))
+sure (ops.Trailing a) h = absurd (h (λ e. cc))
+sure (ops.BadOid a) h = absurd (h (λ e. cc))
+sure ops.TooLong h = absurd (h (λ e. cc))
+sure (ops.BadKey a) h = absurd (h (λ e. cc))
 
 -- what is read isn't refused
 pub not_both : (read : Result Tree OpsFault) (tree : Tree) (why : OpsFault) → read ≡ Ok tree → read ≡ Err why → ⊥

@@ -1,2 +1,6 @@
 mod Promises
 mod InTheWay
+mod OidLengths
+mod Weights
+mod TokenWeights
+mod BlobSizes

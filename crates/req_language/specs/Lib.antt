@@ -1,3 +1,4 @@
 pub mod Promise
 pub mod Steps
 pub mod Through
+pub mod ThroughSets

@@ -1,10 +1,10 @@
 -- Texts as bytes, and what is in the way. This project's own.
-use Rattle.std.specs.Prelude.{ℕ, ◌≡◌, ◌≢◌, ◌<◌, List, length}
+use Rattle.std.specs.Prelude.{ℕ, ◌≡◌, List}
 use Rattle.req_tree.specs.Tree.{Tree}
 use Rattle.req_grammar.specs.Readings.{IsRequirementText}
 use Rattle.req_blob.specs.declared.fault.OpsFault.TheVariants as ops
-use Rattle.req_blob.specs.declared.limits.TheConstants.{MOST_BYTES}
-use Rattle.req_blob.specs.Spelling.{IsPlain, plain_blob}
+use Rattle.req_blob.specs.Spelling.{IsPlain}
+use Rattle.req_parser.specs.Failures.{FailsText}
 use Rattle.req_tokens.specs.declared.fault.TextFault.TheVariants as text
 use Rattle.req_language.specs.declared.through.LanguageFault.{LanguageFault}
 use Rattle.req_language.specs.declared.through.LanguageFault.TheVariants.{Bytes, Text}
@@ -15,7 +15,12 @@ pub record IsBlobOf (text bytes : List ℕ) : Type 0 where
   pub says : IsRequirementText text tree
   pub plain : IsPlain tree bytes
 
--- unless there was no memory, the tree's plain blob would have too many bytes
-abbrev pub IsWanting : Tree → LanguageFault → Type 0
-IsWanting tree (Bytes why) = why ≢ ops.OutOfMemory → (why ≡ ops.TooLong) × (MOST_BYTES < length (plain_blob tree))
-IsWanting tree (Text why) = why ≡ text.OutOfMemory
+-- the text's own fault, or there was no memory
+abbrev pub IsTextFault : List ℕ → LanguageFault → Type 0
+IsTextFault source (Bytes why) = why ≡ ops.OutOfMemory
+IsTextFault source (Text why) = FailsText source why
+
+-- there was no memory
+abbrev pub IsMemory : LanguageFault → Type 0
+IsMemory (Bytes why) = why ≡ ops.OutOfMemory
+IsMemory (Text why) = why ≡ text.OutOfMemory

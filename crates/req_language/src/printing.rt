@@ -5,7 +5,7 @@ ghost use Rattle.req_tree.specs.Tree.{Tree};
 ghost use Rattle.req_tree.specs.TreeSet.{TreeSet};
 ghost use Rattle.req_blob.specs.Decoding.{decoded};
 ghost use Rattle.req_blob.specs.declared.fault.OpsFault.TheVariants as ops;
-ghost use Rattle.req_ops.specs.Sets.{SetFails};
+ghost use Rattle.req_ops.specs.Sets.{IsSetSpelling, SetFails};
 ghost use Rattle.req_language.specs.Steps.{IsTextOf, IsSetTextOf};
 
 use req_blob::{OpsFault, decode};
@@ -38,6 +38,8 @@ pub fn text_of_set(alloc: Global, bytes: &[u8]) -> Result<Bytes, SetFault>
     ensures text { IfOk result (IsSetTextOf bytes.now) }
     // The bytes are no set, and this is their first fault, unless memory ran out.
     ensures fault { IfErr result (SetFails bytes.now) }
+    // A set's bytes have their text, unless memory ran out.
+    ensures only { (set : TreeSet) → IsSetSpelling set bytes.now → IfErr result (λ fault. fault ≡ SetFault.OutOfMemory) }
 {
     match decode_set(alloc, bytes) {
         Ok(set) => {

@@ -9,9 +9,11 @@ ghost use Rattle.req_grammar.specs.Readings.{IsRequirementText};
 ghost use Rattle.req_blob.specs.Spelling.{IsSpelling};
 ghost use Rattle.dumped_text.specs.Dumped.{dumped};
 ghost use Rattle.req_language.specs.Promise.{ComesBack};
-ghost use Rattle.req_language.specs.Through.{IsBlobOf, IsWanting};
+ghost use Rattle.req_language.specs.Through.{IsBlobOf, IsMemory, IsTextFault};
 
-use crate::laws::{a_printed_text_says_one_normal_form, normal_forms_come_back};
+use crate::laws::{
+    a_printed_text_says_one_normal_form, normal_forms_come_back, texts_have_short_blobs,
+};
 use crate::printing::text_of;
 use dumped_text::laws::texts_are_normal_forms;
 use req_blob::laws::{
@@ -25,7 +27,7 @@ use std::alloc::Global;
 /// Why bytes don't come back.
 #[derive(Clone, Copy, Drop)]
 pub enum LanguageFault {
-    /// The bytes are no requirement, or those of the normal form would be too many.
+    /// The bytes are no requirement, or there was no memory for those of the normal form.
     Bytes(OpsFault),
     /// The text is too long, or the normal form too deep.
     Text(TextFault),
@@ -34,8 +36,8 @@ pub enum LanguageFault {
 /// The plain bytes of the normal form of the requirement that bytes are: what compiling its printed text gives.
 pub fn through_text(alloc: Global, bytes: &[u8]) -> Result<Bytes, LanguageFault>
     ensures back { IfOk result (ComesBack bytes.now) }
-    // Nothing else is in the way than memory, and the length of the normal form's blob.
-    ensures only { (tree : Tree) → IsSpelling tree bytes.now → length (dumped tree) ≤ MOST_TEXT_BYTES → IsShallow (normal tree) → IfErr result (IsWanting (normal tree)) }
+    // Nothing else is in the way than memory.
+    ensures only { (tree : Tree) → IsSpelling tree bytes.now → length (dumped tree) ≤ MOST_TEXT_BYTES → IsShallow (normal tree) → IfErr result IsMemory }
 {
     normal_forms_come_back();
     a_printed_text_says_one_normal_form();
@@ -51,8 +53,11 @@ pub fn through_text(alloc: Global, bytes: &[u8]) -> Result<Bytes, LanguageFault>
 /// The plain bytes of the requirement that a text is.
 pub fn blob_of(alloc: Global, text: &[u8]) -> Result<Bytes, LanguageFault>
     ensures blob { IfOk result (IsBlobOf text.now) }
-    ensures only { (tree : Tree) → IsRequirementText text.now tree → IfErr result (IsWanting tree) }
+    ensures only { (tree : Tree) → IsRequirementText text.now tree → IfErr result IsMemory }
+    // Which fault it is, unless memory ran out.
+    ensures exact { IfErr result (IsTextFault text.now) }
 {
+    texts_have_short_blobs();
     what_is_refused_is_too_long();
     match parse(alloc, text) {
         Ok(req) => {

@@ -7,7 +7,7 @@ use Rattle.dumped_text.specs.Dumped.{dumped}
 use Rattle.dumped_text.specs.Sayable.{IsSayable}
 use Rattle.req_language.specs.Through.{IsBlobOf}
 use Rattle.req_language.specs.Promise.{ComesBack}
-use Rattle.req_language.proofs.InTheWay.{not_both, if_ok_map}
+use Rattle.req_language.proofs.InTheWay.{sure, not_both, if_ok_map}
 use Rattle.req_language.proofs.through.through_text.Goals as goal
 
 pub returns-in-Ok-clause-back : goal.returns-in-Ok-clause-back
@@ -30,5 +30,5 @@ returns-in-Ok-clause-only c tree spelt short shallow =
     (c.texts_are_normal_forms.ensures.tree tree (subst IsSayable same t.sayable) short shallow))
 
 pub returns-in-Err-clause-only : goal.returns-in-Err-clause-only
-returns-in-Err-clause-only c tree spelt short shallow = λ some.
-    absurd (not_both _ tree c.in-Err.fault ((c.bytes_are_read_where_they_spell.ensures c.args.bytes.now tree (λ i. omega (arith, c.type_inv.bytes i))).1 spelt) (c.in-Err.ensures.fault some))
+returns-in-Err-clause-only c tree spelt short shallow = sure c.in-Err.fault (λ some.
+    not_both _ tree c.in-Err.fault ((c.bytes_are_read_where_they_spell.ensures c.args.bytes.now tree (λ i. omega (arith, c.type_inv.bytes i))).1 spelt) (c.in-Err.ensures.fault some))

@@ -1,0 +1,26 @@
+use Rattle.std.proofs.Common.{subst}
+use Rattle.req_ops.specs.SetEncoding.{IsPlainSet}
+use Rattle.req_language.specs.ThroughSets.{IsSetMemory, IsSetTextFault}
+use Rattle.language_commands.specs.Refusals.{text_refusal}
+use Rattle.language_commands.specs.CompilingSets.{RefusesSetText, SaysOfSetText}
+use Rattle.language_commands.proofs.TakenOrRefused.{refusal_of}
+use Rattle.language_commands.proofs.compiling_sets.compiled.Goals as goal
+
+pub returns-in-Ok-clause-says : goal.returns-in-Ok-clause-says
+returns-in-Ok-clause-says c =
+    let b = c.in-Ok.ensures.blob in
+    record {
+      set = b.set;
+      is_text = b.says;
+      only = λ other is. c.texts_say_one_tree.ensures.set c.args.text.now other b.set is b.says;
+      says = b.plain;
+    }
+
+pub returns-in-Err-Text-clause-says : goal.returns-in-Err-Text-clause-says
+returns-in-Err-Text-clause-says c =
+    let text = c.args.text.now in
+    let fault = c.in-Err-Text.fault in
+    let is_text = c.in-Err-Text.field-0-is in
+    refusal_of (SaysOfSetText IsPlainSet text) (RefusesSetText text) (text_refusal fault) c.refuse_text.result
+    (λ said known line. record { none = λ set is. known (subst IsSetMemory is_text (c.in-Err-Text.ensures.only set is)); fault = fault; known = known; fails = subst (IsSetTextFault text) is_text c.in-Err-Text.ensures.exact; line = line })
+    c.refuse_text.ensures.known c.refuse_text.ensures.status c.refuse_text.ensures.text
