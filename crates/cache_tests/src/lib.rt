@@ -1,0 +1,7 @@
+//! Tests of the outcomes that are kept.
+#![tactic(auto)]
+
+#[cfg(test)]
+mod kept;
+#[cfg(test)]
+mod steps;
