@@ -1,7 +1,7 @@
 -- Bytes that were read go on with those behind them.
 use Rattle.std.proofs.Common.{◌≡◌, ℕ, List, ◌++◌, Option, Some, None, refl, sym, ap}
 use Rattle.std.proofs.lemmas.List.{append_assoc}
-use Rattle.session_model.specs.WordTexts.{joined}
+use Rattle.line_model.specs.WordTexts.{joined}
 
 -- bytes, some behind them and the rest are joined in any order
 pub joined-joined : (first second : List ℕ) (rest : Option (List ℕ)) → joined (Some first) (joined (Some second) rest) ≡ joined (Some (first ++ second)) rest

@@ -2,9 +2,9 @@
 use Rattle.std.proofs.Common.{◌≡◌, ℕ, Bool, true, false, ◌==◌, List, [], ◌∷◌, if◌then◌else◌, Ok, Err, refl, sym, ◌∙◌, ap}
 use Rattle.std.specs.List.{onto_first}
 use Rattle.std.proofs.lemmas.List.Splits.{join_with_byte-slice_split}
-use Rattle.session_model.specs.Words.{words, spaced}
-use Rattle.session_model.specs.Left.{Left, end_of, misfit}
-use Rattle.session_model.specs.Lines.{rest_of}
+use Rattle.line_model.specs.Words.{words, spaced}
+use Rattle.line_model.specs.Left.{Left, end_of, misfit}
+use Rattle.line_model.specs.Requirements.{rest_of}
 
 -- some words, of which there is a first
 abbrev HasFirst : List (List ℕ) → Type 0

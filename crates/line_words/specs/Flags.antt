@@ -1,5 +1,5 @@
 -- A rule's flags as plain data.
-use Rattle.session_model.specs.Words as model
+use Rattle.line_model.specs.Words as model
 use Rattle.line_words.specs.declared.flags.Flags.{Flags}
 
 -- the flags of the definitions

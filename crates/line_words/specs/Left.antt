@@ -1,9 +1,9 @@
 -- What a call reads of a line, and what it leaves of it.
 use Rattle.std.specs.Prelude.{◌≡◌, ℕ, List, [], Option, Some, None, Result, Ok, Err}
 use Rattle.std.specs.Option.{option_copied}
-use Rattle.session_model.specs.Words.{words}
-use Rattle.session_model.specs.LineFaults.{LineFault}
-use Rattle.session_model.specs.Left.{Left}
+use Rattle.line_model.specs.Words.{words}
+use Rattle.line_model.specs.LineFaults.{LineFault}
+use Rattle.line_model.specs.Left.{Left}
 use Rattle.line_words.specs.Faults.{fault_of}
 use Rattle.line_words.specs.declared.fault.LineFault as code
 use Rattle.line_words.specs.declared.cursor.Cursor.{Cursor}

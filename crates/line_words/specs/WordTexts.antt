@@ -1,6 +1,6 @@
 -- What a reader of a word's bytes returns, as plain data.
 use Rattle.std.specs.Prelude.{ℕ, List, [], ◌∷◌, Option, Some, None}
-use Rattle.session_model.specs.WordTexts.{joined, bytes_in}
+use Rattle.line_model.specs.WordTexts.{joined, bytes_in}
 use denote.Bor.{Bor}
 
 -- a first byte and the bytes of the rest

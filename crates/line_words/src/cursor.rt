@@ -28,9 +28,10 @@ pub struct Cursor<'a> {
 }
 
 impl<'a> Cursor<'a> {
-    ghost use Rattle.session_model.specs.Left.{all_of, word_at, end_at};
-    ghost use Rattle.session_model.specs.Forms.{moment_at, expiry_at, kind_at, allow_at, priority_at, label_at, flags_at, hash_at, identifier_at, platform_at};
-    ghost use Rattle.session_model.specs.Lines.{rest_at, signed_at, subject_at};
+    ghost use Rattle.line_model.specs.Left.{all_of, word_at, end_at};
+    ghost use Rattle.line_model.specs.Forms.{moment_at, expiry_at, kind_at, allow_at, priority_at, label_at, flags_at, hash_at, identifier_at, platform_at};
+    ghost use Rattle.line_model.specs.Requirements.{rest_at};
+    ghost use Rattle.line_model.specs.Subjects.{signed_at, subject_at};
     ghost use Rattle.req_tree.specs.Subject.{identifier_bytes, subject_of};
     ghost use Rattle.authority_table.specs.Label.{label_bytes};
     ghost use Rattle.authority_table.specs.Kind.{kind_of};

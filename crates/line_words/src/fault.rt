@@ -3,10 +3,12 @@
 ghost use Rattle.std.specs.Prelude.{◌≡◌, ◌+◌, ◌≤◌, ◌++◌, length};
 ghost use Rattle.line_text.specs.LineText.{line_bytes};
 ghost use Rattle.line_text.specs.declared.limits.TheConstants.{FRONT_LIMIT};
-ghost use Rattle.session_model.specs.LineFaults.{line_fault_text};
+ghost use Rattle.line_model.specs.LineFaults.{line_fault_text};
 ghost use Rattle.line_words.specs.Faults.{fault_of};
 
 use line_text::LineText;
+use req_tokens::TextFault;
+use std::alloc::{AllocError, AllocFailed};
 
 /// The first thing in a line, from the left, that doesn't fit.
 #[derive(Clone, Copy, Drop)]
@@ -17,7 +19,7 @@ pub enum LineFault {
         column: u32,
     },
     /// The text at the end is no requirement.
-    BadRequirement,
+    BadRequirement(TextFault),
     BadPriority,
     BadMoment,
     BadLabel,
@@ -25,15 +27,53 @@ pub enum LineFault {
     RequirementTooLong,
     /// The form isn't read yet.
     NotBuilt,
+    OutOfMemory,
 }
 
 impl LineFault {
-    /// Appends the refusal's line, without its end. So far each fault prints as `NotBuilt`.
+    /// Appends the refusal's line, without its end; nothing where there was no memory.
     pub fn line_into(&self, out: &mut LineText)
         requires { length (line_bytes out.old) ≤ FRONT_LIMIT }
         ensures text { line_bytes out.new ≡ line_bytes out.old ++ line_fault_text (fault_of self.now) }
         ensures length { length (line_bytes out.new) ≤ length (line_bytes out.old) + 100 }
     {
-        out.push_all(b"refused line 8 NotBuilt");
+        match self {
+            LineFault::BadLine { column } => {
+                out.push_field(b"refused line 1 BadLine column=", u64::from(*column));
+            }
+            LineFault::BadRequirement(fault) => {
+                out.push_all(b"refused line 2 BadRequirement ");
+                fault.line_into(out);
+            }
+            LineFault::BadPriority => out.push_all(b"refused line 3 BadPriority"),
+            LineFault::BadMoment => out.push_all(b"refused line 4 BadMoment"),
+            LineFault::BadLabel => out.push_all(b"refused line 5 BadLabel"),
+            LineFault::BadKey => out.push_all(b"refused line 6 BadKey"),
+            LineFault::RequirementTooLong => out.push_all(b"refused line 7 RequirementTooLong"),
+            LineFault::NotBuilt => out.push_all(b"refused line 8 NotBuilt"),
+            LineFault::OutOfMemory => {}
+        }
+    }
+}
+
+impl From<AllocError> for LineFault {
+    ghost use Rattle.std.specs.Prelude.{◌≡◌};
+    ghost use Rattle.line_words.specs.declared.fault.LineFault.TheVariants.{OutOfMemory};
+
+    ghost from_gives = { λ _ fault. fault ≡ OutOfMemory };
+
+    fn from(_: AllocError) -> LineFault {
+        LineFault::OutOfMemory
+    }
+}
+
+impl<T: Drop> From<AllocFailed<T>> for LineFault {
+    ghost use Rattle.std.specs.Prelude.{◌≡◌};
+    ghost use Rattle.line_words.specs.declared.fault.LineFault.TheVariants.{OutOfMemory};
+
+    ghost from_gives = { λ _ fault. fault ≡ OutOfMemory };
+
+    fn from(_: AllocFailed<T>) -> LineFault {
+        LineFault::OutOfMemory
     }
 }

@@ -6,6 +6,7 @@ mod fault;
 mod flags;
 mod number;
 mod reading;
+mod selecting;
 mod split;
 mod word_text;
 
@@ -14,6 +15,6 @@ pub use fault::LineFault;
 pub use flags::Flags;
 pub use number::read_number;
 pub use reading::{
-    read_allow, read_expiry, read_flags, read_identifier, read_kind, read_label, read_moment,
-    read_platform, read_priority,
+    read_allow, read_any_kind, read_expiry, read_flags, read_identifier, read_kind, read_label,
+    read_moment, read_name, read_platform, read_priority, read_rule, read_switch,
 };

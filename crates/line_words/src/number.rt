@@ -4,7 +4,7 @@ ghost use Rattle.std.specs.Prelude.{◌≡◌, ◌≤◌, length, Some, None, If
 ghost use Rattle.std.specs.List.{list_all};
 ghost use Rattle.std.specs.Char.{is_ascii_digit};
 ghost use Rattle.req_tree.specs.NumericOrder.{number_of};
-ghost use Rattle.session_model.specs.Words.{number_word};
+ghost use Rattle.line_model.specs.Words.{number_word};
 
 /// The number of 1 to `most` digits, where it is at most the greatest.
 pub fn read_number(word: &[u8], most: usize, greatest: u64) -> Option<u64>

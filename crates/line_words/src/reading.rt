@@ -1,11 +1,11 @@
 //! What a single word stands for.
 
-ghost use Rattle.std.specs.Prelude.{◌≡◌, ◌≤◌, ◌*◌, ◌≤ℤ◌, ◌==◌, nat_le, nat_lt, pos, position, Some, None, if◌then◌else◌, IfSome};
+ghost use Rattle.std.specs.Prelude.{◌≡◌, ◌≤◌, ◌*◌, ◌≤ℤ◌, ◌==◌, nat_le, nat_lt, pos, position, length, Some, None, if◌then◌else◌, IfSome};
 ghost use Rattle.std.specs.Option.{option_map};
 ghost use Rattle.std.specs.List.{list_all};
 ghost use Rattle.policy_model.specs.declared.limits.TheConstants.{UNIT};
-ghost use Rattle.session_model.specs.declared.limits.TheConstants.{GREATEST_UNITS};
-ghost use Rattle.session_model.specs.Words.{moment_word, expiry_word, kind_word, allow_word, priority_word, amount_word, units_word, fraction_word, label_word, flags_word, identifier_word, platform_word};
+ghost use Rattle.line_model.specs.declared.limits.TheConstants.{GREATEST_UNITS};
+ghost use Rattle.line_model.specs.Words.{moment_word, expiry_word, kind_word, any_kind_word, rule_word, switch_word, allow_word, priority_word, amount_word, units_word, fraction_word, label_word, name_word, flags_word, identifier_word, platform_word};
 ghost use Rattle.authority_table.specs.Label.{label_bytes};
 ghost use Rattle.line_words.specs.Flags.{flags_of};
 ghost use Rattle.req_tree.specs.Subject.{identifier_bytes};
@@ -14,13 +14,13 @@ ghost use Rattle.authority_table.specs.Kind.{kind_of};
 use crate::flags::Flags;
 use crate::number::read_number;
 use crate::word_text::read_bytes;
-use authority_table::{Kind, Label, Moment, Priority};
-use policy_model::limits::{GREATEST_MOMENT, MOST_LABEL_BYTES, UNIT};
-use req_tree::{Identifier, MOST_IDENTIFIER_BYTES};
-use session_model::limits::{
+use authority_table::{Kind, Label, Moment, Priority, RuleId};
+use line_model::limits::{
     FRACTION_DIGITS, GREATEST_PLATFORM, GREATEST_UNITS, MOMENT_DIGITS, PLATFORM_DIGITS,
-    PRIORITY_DIGITS,
+    PRIORITY_DIGITS, RULE_DIGITS,
 };
+use policy_model::limits::{GREATEST_MOMENT, MOST_LABEL_BYTES, MOST_RECEIPTS, UNIT};
+use req_tree::{Identifier, MOST_IDENTIFIER_BYTES};
 
 pub fn read_moment(word: &[u8]) -> Option<Moment>
     ensures { result ≡ moment_word word.now }
@@ -50,6 +50,35 @@ pub fn read_kind(word: &[u8]) -> Option<Kind>
         Some(Kind::Document)
     } else {
         None
+    }
+}
+
+/// A kind, or `Some(None)` for the word `any`.
+pub fn read_any_kind(word: &[u8]) -> Option<Option<Kind>>
+    ensures { option_map (λ kind. option_map kind_of kind) result ≡ any_kind_word word.now }
+{
+    if word == b"any".as_slice() {
+        return Some(None);
+    }
+    let kind = read_kind(word)?;
+    Some(Some(kind))
+}
+
+/// The number of a rule, which may have zeros in front.
+pub fn read_rule(word: &[u8]) -> Option<RuleId>
+    ensures { result ≡ rule_word word.now }
+{
+    RuleId::of(read_number(word, RULE_DIGITS, u64::from(MOST_RECEIPTS))? as u32)
+}
+
+/// Whether assessments are switched on.
+pub fn read_switch(word: &[u8]) -> Option<bool>
+    ensures { result ≡ switch_word word.now }
+{
+    match word {
+        b"on" => Some(true),
+        b"off" => Some(false),
+        _ => None,
     }
 }
 
@@ -137,6 +166,19 @@ pub fn read_label(word: &[u8]) -> Option<Label>
 {
     let bytes = read_bytes(word, MOST_LABEL_BYTES)?;
     Some(Label::holding(bytes.as_slice()))
+}
+
+/// A label that isn't empty.
+pub fn read_name(word: &[u8]) -> Option<Label>
+    ensures bytes { option_map label_bytes result ≡ name_word word.now }
+    ensures named { IfSome result (λ label. 1 ≤ length (label_bytes label)) }
+{
+    let label = read_label(word)?;
+    if label.as_slice().is_empty() {
+        None
+    } else {
+        Some(label)
+    }
 }
 
 /// A rule's flags.

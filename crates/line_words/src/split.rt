@@ -2,7 +2,7 @@
 
 ghost use Rattle.std.specs.Prelude.{◌≡◌, ◌≤◌, ◌+◌, ◌==◌, ◌∷◌, length, position, IfSome};
 ghost use Rattle.std.specs.Option.{option_copied};
-ghost use Rattle.session_model.specs.Words.{words};
+ghost use Rattle.line_model.specs.Words.{words};
 ghost use Rattle.line_words.specs.Left.{left_words};
 
 /// Cuts at the first space. Without one the line is the one word, and nothing follows it.

@@ -3,7 +3,7 @@
 ghost use Rattle.std.specs.Prelude.{◌≡◌, ◌≤◌, ◌<◌, ◌∷◌, [], ℕ, length, IfSome};
 ghost use Rattle.std.specs.Option.{option_map};
 ghost use Rattle.req_tree.specs.declared.limits.TheConstants.{MOST_IDENTIFIER_BYTES};
-ghost use Rattle.session_model.specs.WordTexts.{is_itself, pair_byte, bytes_of_word, bytes_in, pair_in, at_most};
+ghost use Rattle.line_model.specs.WordTexts.{is_itself, pair_byte, bytes_of_word, bytes_in, pair_in, at_most};
 ghost use Rattle.line_words.specs.WordTexts.{front_and};
 
 use arrayvec::ArrayVec;

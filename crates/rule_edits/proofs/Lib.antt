@@ -1,2 +1,5 @@
-mod JoinedTexts
 mod Fronts
+mod JoinedTexts
+mod NoLf
+mod Keyed
+mod Refused

@@ -1,3 +1,6 @@
 pub mod EditKey
 pub mod Edit
 pub mod Fronts
+pub mod Verb
+pub mod NewFront
+pub mod Reads

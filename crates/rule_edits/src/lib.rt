@@ -3,10 +3,17 @@
 
 pub mod edit;
 pub mod edit_key;
+mod front;
 pub mod new_rule;
+mod operands;
+mod read;
+mod requirement;
 pub mod text;
+mod verb;
 
 pub use edit::{Content, Edit};
 pub use edit_key::EditKey;
+pub use line_words::LineFault;
 pub use new_rule::NewRule;
+pub use read::{read_content, read_edit, read_edit_line};
 pub use text::{content_is, content_text};

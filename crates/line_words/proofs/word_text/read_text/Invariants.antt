@@ -1,5 +1,5 @@
 use Rattle.std.proofs.Common.{◌≡◌, ◌≤◌, ℕ, length, Some}
-use Rattle.session_model.specs.WordTexts.{joined, bytes_in}
+use Rattle.line_model.specs.WordTexts.{joined, bytes_in}
 use Rattle.line_words.proofs.word_text.read_text.Given as goal
 
 abbrev pub invariant-loop-left : goal.invariant-loop-left

@@ -1,7 +1,7 @@
 -- A text that is left has a word.
 use Rattle.std.proofs.Common.{◌∙◌, ap}
 use Rattle.std.specs.Option.{option_copied}
-use Rattle.session_model.specs.Left.{end_of}
+use Rattle.line_model.specs.Left.{end_of}
 use Rattle.line_words.specs.Left.{left, left_words}
 use Rattle.line_words.proofs.OneWordAtLeast.{end_of-words}
 use Rattle.line_words.proofs.cursor.Cursor.end.Goals as goal

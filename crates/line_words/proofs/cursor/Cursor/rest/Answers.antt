@@ -1,7 +1,7 @@
 -- The words of a text that is left are that text.
 use Rattle.std.proofs.Common.{◌∙◌, ap}
 use Rattle.std.specs.Option.{option_copied}
-use Rattle.session_model.specs.Lines.{rest_of}
+use Rattle.line_model.specs.Requirements.{rest_of}
 use Rattle.line_words.specs.Left.{left_words}
 use Rattle.line_words.proofs.OneWordAtLeast.{rest_of-words}
 use Rattle.line_words.proofs.cursor.Cursor.rest.Goals as goal
