@@ -9,8 +9,8 @@ use Rattle.code_directory.specs.declared.fault.CodeFault.{CodeFault}
 use Rattle.code_directory.specs.FaultText.{code_fault_text}
 use Rattle.code_directory.specs.Signatures.{View, Views, SignatureFails, subject}
 use Rattle.code_directory.specs.Agreement.{PagesAgree, CodeFails}
-use Rattle.assess_command.specs.declared.assess.Assessed.{Assessed}
-use Rattle.assess_command.specs.declared.assess.Assessed.TheVariants.{Accepted, Rejected, Refused}
+use Rattle.assess_command.specs.declared.line.Assessed.{Assessed}
+use Rattle.assess_command.specs.declared.line.Assessed.TheVariants.{Accepted, Rejected, Refused}
 use Rattle.assess_command.specs.Files.{checked_parts, PartsAgree, PartsFail, CodeAgrees, CodeDiffers, Passes, IsSubject, SignedFails, FilesFail}
 use Rattle.assess_command.specs.Assessments.{ask_on, answer_at, Judged, IsRefused, Assesses}
 

@@ -8,8 +8,8 @@ use Rattle.policy_model.specs.Rules.{Kind}
 use Rattle.policy_model.specs.Outcomes.{Ask, Verdict}
 use Rattle.policy_model.specs.History.{Event, Opening, tick, ask_answer}
 use Rattle.policy_model.specs.ReplyTexts.{verdict_text, origin_on, fate_on}
-use Rattle.assess_command.specs.declared.assess.Assessed.{Assessed}
-use Rattle.assess_command.specs.declared.assess.Assessed.TheVariants.{Accepted, Rejected, Refused}
+use Rattle.assess_command.specs.declared.line.Assessed.{Assessed}
+use Rattle.assess_command.specs.declared.line.Assessed.TheVariants.{Accepted, Rejected, Refused}
 use Rattle.assess_command.specs.Files.{IsSubject, FilesFail}
 
 -- the moment of a clock's seconds: a greater one counts as the greatest

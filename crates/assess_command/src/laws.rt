@@ -3,7 +3,7 @@
 ghost use Rattle.std.specs.Prelude.{◌≡◌, ℕ, List, Option};
 ghost use Rattle.policy_model.specs.History.{Event, Opening};
 ghost use Rattle.policy_model.specs.Rules.{Kind};
-ghost use Rattle.assess_command.specs.declared.assess.Assessed.{Assessed};
+ghost use Rattle.assess_command.specs.declared.line.Assessed.{Assessed};
 ghost use Rattle.assess_command.specs.Assessments.{Assesses};
 
 use code_directory::laws::{bytes_have_one_view, code_has_one_first_fault};

@@ -1,2 +1,4 @@
-mod JoinedTexts
 mod GoesOn
+mod Places
+mod Made
+mod Refused

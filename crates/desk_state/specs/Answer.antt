@@ -1,11 +1,11 @@
 -- The program's answers to edits as those of the definitions.
 use Rattle.std.specs.Prelude.{ℕ, List, [], Option, Some, None, Result, Ok, Err, if◌then◌else◌, ◌≡◌}
 use Rattle.policy_model.specs.Tables as model
-use Rattle.policy_model.specs.Tables.{done, repeated, key_reused, table_full, receipts_full, Effect, Tables}
+use Rattle.policy_model.specs.Tables.{done, repeated, no_rule, key_reused, table_full, receipts_full, disable_full, Effect, Tables}
 use Rattle.policy_model.specs.ReplyTexts.{answer_text}
 use Rattle.desk_state.specs.declared.answer.Answer as code
 use Rattle.desk_state.specs.declared.fault.EditFault as fault
-use Rattle.desk_state.specs.declared.fault.EditFault.TheVariants.{KeyReused, TableFull, ReceiptsFull, OutOfMemory}
+use Rattle.desk_state.specs.declared.fault.EditFault.TheVariants.{NoRule, KeyReused, TableFull, ReceiptsFull, DisableFull, OutOfMemory}
 
 -- made, or made before
 abbrev pub answer_of : code.Answer → model.Answer
@@ -13,9 +13,11 @@ answer_of a = if a.repeated then repeated a.number a.rules else done a.number a.
 
 -- the refusal, or none where it is out of memory
 abbrev pub refusal_of : fault.EditFault → Option model.Answer
+refusal_of NoRule = Some no_rule
 refusal_of (KeyReused number rules) = Some (key_reused number rules)
 refusal_of TableFull = Some table_full
 refusal_of ReceiptsFull = Some receipts_full
+refusal_of (DisableFull rule) = Some (disable_full rule)
 refusal_of OutOfMemory = None
 
 -- why an edit is refused, if it is

@@ -1,7 +1,7 @@
-pub mod Ask
-pub mod EditKey
-pub mod Edit
 pub mod Answer
 pub mod Verdict
 pub mod Receipt
+pub mod Plan
 pub mod Stands
+pub mod Accepted
+pub mod Status

@@ -1,15 +1,13 @@
 -- What a desk stands for: an opening, and what has happened since.
-use Rattle.std.specs.Prelude.{◌≡◌, ℕ, List, [], ◌∷◌, ◌++◌, Result, Ok, Err}
+use Rattle.std.specs.Prelude.{◌≡◌, ℕ, List, []}
 use Rattle.std.specs.Arc.{arc_value}
 use Rattle.req_tree.specs.Facts.{Facts}
 use Rattle.code_facts.specs.Tables.{table_facts}
-use Rattle.authority_table.specs.Rule.{row_of, rows_of}
+use Rattle.authority_table.specs.Rule.{rows_of}
 use Rattle.policy_model.specs.Tables.{Tables}
 use Rattle.policy_model.specs.History.{Event, Opening, tables_of, now_of, HasOwnIds, HasOwnKeys}
-use Rattle.authority_table.specs.declared.rule.Rule.{Rule}
-use Rattle.desk_state.specs.declared.receipt.Receipt.{Receipt}
 use Rattle.desk_state.specs.declared.desk.Desk.{Desk}
-use Rattle.desk_state.specs.Receipt.{receipt_of, receipts_of}
+use Rattle.desk_state.specs.Receipt.{receipts_of}
 
 -- the rules, the receipts and the switch of a desk
 abbrev pub tables : Desk → Tables
@@ -18,15 +16,6 @@ tables d = record { rows = rows_of d.table; receipts = receipts_of d.receipts; e
 -- the moment of a desk
 abbrev pub moment_of : Desk → ℕ
 moment_of d = d.moment
-
--- the tables with one more rule and one more receipt
-abbrev pub with_both : Rule → Receipt → Tables → Tables
-with_both rule receipt t = record { rows = t.rows ++ row_of rule ∷ []; receipts = t.receipts ++ receipt_of receipt ∷ []; enabled = t.enabled }
-
--- the tables after a rule and its receipt were to be kept: with both, or as before
-abbrev pub kept_both : {A E : Type 0} → Result A E → Rule → Receipt → Tables → Tables
-kept_both (Ok done) rule receipt t = with_both rule receipt t
-kept_both (Err fault) rule receipt t = t
 
 -- the facts that a desk knows of code
 abbrev pub facts_of : Desk → Facts

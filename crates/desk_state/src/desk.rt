@@ -1,22 +1,25 @@
 //! The desk: its rules, its receipts and its moment.
 
-ghost use Rattle.std.specs.Prelude.{◌≡◌, ◌+◌, ◌<◌, ◌≤◌, ◌++◌, [], ◌∷◌, List, max, length, Some, None, Err, IfOk, IfSome, IsSome, IsNone, OnErr, OnOk};
+ghost use Rattle.std.specs.Prelude.{◌≡◌, ◌+◌, ◌<◌, ◌≤◌, ◌++◌, [], ◌∷◌, List, max, length, Some, None, IfOk, IfSome, IsSome, IsNone, OnOk};
 ghost use Rattle.authority_table.specs.Rule.{rows_of};
 ghost use Rattle.policy_model.specs.History.{HasOwnIds};
 ghost use Rattle.desk_state.specs.Receipt.{receipts_of};
 
+mod planning;
+
 use crate::answer::Answer;
-use crate::ask::Ask;
-use crate::edit::{Content, Edit};
 use crate::fault::EditFault;
-use crate::new_rule::NewRule;
+use crate::plan::Plan;
 use crate::receipt::{Receipt, Receipts};
+use crate::status::DeskStatus;
 use crate::verdict::{Origin, Verdict};
-use authority_table::{Found, Label, Moment, Rule, RuleId, Table};
+use assess::Ask;
+use authority_table::{Found, Label, Moment, Prepared, RuleId, Table};
 use code_facts::FactTable;
 use fact_values::Facts;
 use policy_model::laws::{history_goes_on, ids_stay_own, keys_stay_own, one_outcome};
 use req_tree::Subject;
+use rule_edits::{Edit, content_is, content_text};
 use std::alloc::{AllocError, Global};
 use std::sync::Arc;
 
@@ -45,18 +48,20 @@ impl Desk {
     ghost use Rattle.policy_model.specs.declared.limits.TheConstants.{MOST_RULES, MOST_RECEIPTS};
     ghost use Rattle.policy_model.specs.Rules.{Kind};
     ghost use Rattle.policy_model.specs.Outcomes as policy;
-    ghost use Rattle.policy_model.specs.Contents.{add};
     ghost use Rattle.policy_model.specs.Tables.{IsAccepted};
-    ghost use Rattle.policy_model.specs.Refusals.{refusal};
-    ghost use Rattle.policy_model.specs.Edits.{does, at_new};
+    ghost use Rattle.policy_model.specs.Edits.{does, kept};
     ghost use Rattle.policy_model.specs.ReplyTexts.{origin_on, rules};
     ghost use Rattle.authority_table.specs.Label.{label_bytes};
     ghost use Rattle.authority_table.specs.Found.{governing_row, latent_row};
-    ghost use Rattle.desk_state.specs.Ask.{ask_of};
-    ghost use Rattle.desk_state.specs.Edit.{edit_of, content_of, new_row};
-    ghost use Rattle.desk_state.specs.Answer.{given, refusal_in, IsDone};
+    ghost use Rattle.assess.specs.Ask.{ask_of};
+    ghost use Rattle.rule_edits.specs.Edit.{edit_of};
+    ghost use Rattle.desk_state.specs.Receipt.{receipt_of};
+    ghost use Rattle.desk_state.specs.Answer.{given, IsDone};
+    ghost use Rattle.desk_state.specs.Plan.{IsFor, with_plan, carried_out, next_receipt};
+    ghost use Rattle.desk_state.specs.Accepted.{IsDoneAtNew};
+    ghost use Rattle.desk_state.specs.Status.{IsStatus};
     ghost use Rattle.desk_state.specs.Verdict.{verdict_of, origin_of};
-    ghost use Rattle.desk_state.specs.Stands.{tables, moment_of, facts_of, kept_both, Stands};
+    ghost use Rattle.desk_state.specs.Stands.{tables, moment_of, facts_of, Stands};
 
     /// A desk that knows these facts, without rules, at moment 0, with assessments switched on.
     pub fn fresh(alloc: Global, facts: Arc<FactTable>) -> Desk
@@ -172,13 +177,14 @@ impl Desk {
         ensures verdict { verdict_of result ≡ policy.decided (tables self.now).enabled (moment_of self.now) allow rule latent (label_bytes label) }
         ensures origin { result.origin ≡ origin }
     {
+        let overridden = !allow && !self.enabled;
         Verdict {
             allow: allow || !self.enabled,
             at: self.moment,
             rule,
             latent,
             label,
-            overridden: !allow && !self.enabled,
+            overridden,
             origin,
         }
     }
@@ -204,77 +210,85 @@ impl Desk {
         }
     }
 
+    /// The state of the desk in numbers.
+    pub fn status(&self) -> DeskStatus
+        ensures is { IsStatus self.now result }
+
+        // After any history of this desk.
+        ensures stands { (o : Opening) (h : List Event) → Stands self.now o h → Stands self.now o (h ++ event.look ∷ []) }
+    {
+        history_goes_on();
+        DeskStatus {
+            enabled: self.enabled,
+            rules: self.table.count(),
+            receipts: self.receipts.count(),
+            objects: 0,
+            now: self.moment,
+        }
+    }
+
+    /// Makes an edit under a new key, or refuses it.
     fn accept(&mut self, alloc: Global, edit: &Edit) -> Result<Answer, EditFault>
-        ensures does { IsDone (at_new (refusal (edit_of edit.now).content (tables self.old)) (edit_of edit.now) (tables self.old)) (tables self.old) (tables self.new) (given result) }
-        ensures moment { moment_of self.new ≡ moment_of self.old }
-        ensures facts { facts_of self.new ≡ facts_of self.old }
-        ensures wanting { IsNone (given result) → IsAccepted (at_new (refusal (edit_of edit.now).content (tables self.old)) (edit_of edit.now) (tables self.old)).answer }
+        requires { kept (tables self.old).receipts (edit_of edit.now).key ≡ None }
+        ensures { IsDoneAtNew (edit_of edit.now) self.old self.new (given result) }
     {
-        match self.refusal(&edit.content) {
-            Some(fault) => Err(fault),
-            None => match &edit.content {
-                Content::Add(rule) => self.add(alloc, edit, rule),
-            },
-        }
+        ids_stay_own();
+        let plan = self.plan(alloc, &edit.content)?;
+        let receipt = self.receipt(alloc, edit, plan.count())?;
+        let answer = Answer {
+            repeated: false,
+            number: receipt.number,
+            rules: receipt.rules,
+        };
+        self.carry_out(plan, receipt)?;
+        Ok(answer)
     }
 
-    /// Why an edit of this content is refused under a new key.
-    fn refusal(&self, content: &Content) -> Option<EditFault>
-        ensures { refusal_in result ≡ refusal (content_of content.now) (tables self.now) }
+    /// The receipt of an edit that is about to be made.
+    fn receipt(&self, alloc: Global, edit: &Edit, rules: u32) -> Result<Receipt, AllocError>
+        ensures { IfOk result (λ receipt. receipt_of receipt ≡ next_receipt (edit_of edit.now) rules (tables self.now)) }
     {
-        match content {
-            Content::Add(_) if self.table.is_full() => Some(EditFault::TableFull),
-            _ if self.receipts.is_full() => Some(EditFault::ReceiptsFull),
-            _ => None,
-        }
-    }
-
-    fn add(&mut self, alloc: Global, edit: &Edit, new: &NewRule) -> Result<Answer, EditFault>
-        requires content { (edit_of edit.now).content ≡ add (new_row new.now) }
-        requires accepts { refusal (add (new_row new.now)) (tables self.old) ≡ None }
-        ensures does { IsDone (at_new None (edit_of edit.now) (tables self.old)) (tables self.old) (tables self.new) (given result) }
-        ensures moment { moment_of self.new ≡ moment_of self.old }
-        ensures facts { facts_of self.new ≡ facts_of self.old }
-    {
-        let number = self.receipts.count() + 1;
-        let rule = new.rule(alloc, RuleId::numbered(number))?;
-        let content = edit.content.text(alloc)?;
-        let receipt = Receipt {
-            number,
+        let content = content_text(alloc, &edit.content)?;
+        Ok(Receipt {
+            number: self.receipts.count() + 1,
             key: edit.key.copied(),
             content,
-            rules: 1,
-        };
-        self.keep(rule, receipt)?;
-        Ok(Answer {
-            repeated: false,
-            number,
-            rules: 1,
+            rules,
         })
     }
 
-    /// Keeps a rule and its receipt, or neither.
-    fn keep(&mut self, rule: Rule, receipt: Receipt) -> Result<(), AllocError>
-        requires room { length (tables self.old).rows < MOST_RULES }
+    /// Makes a planned change and keeps its receipt, or neither.
+    fn carry_out(&mut self, plan: Plan, receipt: Receipt) -> Result<(), AllocError>
         requires few { length (tables self.old).receipts < MOST_RECEIPTS }
-        requires id { rule.id ≡ length (tables self.old).receipts + 1 }
-        ensures tables { tables self.new ≡ kept_both result rule receipt (tables self.old) }
+        requires new { kept (tables self.old).receipts (receipt_of receipt).key ≡ None }
+        requires fits { IsFor plan.rows (tables self.old).rows }
+        requires own { HasOwnIds (with_plan plan receipt (tables self.old)) }
+        ensures tables { tables self.new ≡ carried_out result plan receipt (tables self.old) }
         ensures moment { moment_of self.new ≡ moment_of self.old }
         ensures facts { facts_of self.new ≡ facts_of self.old }
     {
+        let Plan { rows, enabled } = plan;
         self.receipts.push(receipt)?;
-        match self.table.push(rule) {
-            Ok(()) => Ok(()),
-            Err(error) => {
-                self.receipts.pop();
-                Err(error)
-            }
-        }
+        commit(&mut self.table, rows);
+        self.enabled = enabled;
+        Ok(())
+    }
+}
+
+/// Makes a change of the rules, if there is one.
+fn commit(table: &mut Table, rows: Option<Prepared>)
+    requires { IsFor rows (rows_of table.old) }
+    ensures { rows_of table.new ≡ rows_by rows (rows_of table.old) }
+{
+    match rows {
+        None => {}
+        Some(rows) => table.commit(rows),
     }
 }
 
 ghost use Rattle.desk_state.specs.Receipt.{receipt_of};
-ghost use Rattle.desk_state.specs.Edit.{edit_of};
+ghost use Rattle.rule_edits.specs.Edit.{edit_of};
+ghost use Rattle.desk_state.specs.Plan.{IsFor, rows_by};
 ghost use Rattle.desk_state.specs.Answer.{given};
 ghost use Rattle.policy_model.specs.Edits as policy_edits;
 
@@ -289,16 +303,15 @@ fn later(one: Moment, other: Moment) -> Moment
 fn at_kept(receipt: &Receipt, edit: &Edit) -> Result<Answer, EditFault>
     ensures { given result ≡ Some (policy_edits.at_kept (receipt_of receipt.now) (edit_of edit.now)) }
 {
-    if edit.content.is(receipt.content.as_slice()) {
+    let number = receipt.number;
+    let rules = receipt.rules;
+    if content_is(&edit.content, receipt.content.as_slice()) {
         Ok(Answer {
             repeated: true,
-            number: receipt.number,
-            rules: receipt.rules,
+            number,
+            rules,
         })
     } else {
-        Err(EditFault::KeyReused {
-            number: receipt.number,
-            rules: receipt.rules,
-        })
+        Err(EditFault::KeyReused { number, rules })
     }
 }

@@ -5,12 +5,16 @@ ghost use Rattle.line_text.specs.LineText.{line_bytes};
 ghost use Rattle.line_text.specs.declared.limits.TheConstants.{FRONT_LIMIT};
 
 use crate::answer::numbers_into;
+use authority_table::{PlanFault, RuleId};
 use req_tree::LineText;
 use std::alloc::AllocError;
 
-/// Why an edit was not made: the first of these, in this order. The tables are as before.
+/// Why an edit was not made; the tables are as before. The first of these, in the order `KeyReused`, `NoRule` or
+/// `TableFull`, `ReceiptsFull`, `DisableFull`, `OutOfMemory`.
 #[derive(Clone, Copy, Drop)]
 pub enum EditFault {
+    /// Number 11: no rule is selected.
+    NoRule,
     /// Number 12: the key is kept with another content.
     KeyReused {
         /// The number of the edit that is kept.
@@ -22,7 +26,12 @@ pub enum EditFault {
     TableFull,
     /// Number 14: as many edits were accepted as ever can be.
     ReceiptsFull,
-    /// There was no memory for the rule or its receipt.
+    /// Number 15: a selected rule was disabled as often as can be.
+    DisableFull {
+        /// The least number of such a rule.
+        rule: RuleId,
+    },
+    /// There was no memory for the change or its receipt.
     OutOfMemory,
 }
 
@@ -37,6 +46,23 @@ impl From<AllocError> for EditFault {
     }
 }
 
+impl From<PlanFault> for EditFault {
+    ghost use Rattle.std.specs.Prelude.{◌≡◌};
+    ghost use Rattle.authority_table.specs.Prepared as table;
+    ghost use Rattle.desk_state.specs.Answer.{refusal_of};
+
+    ghost from_gives = { λ refused fault. refusal_of fault ≡ table.refusal_of refused };
+
+    fn from(refused: PlanFault) -> EditFault {
+        match refused {
+            PlanFault::TableFull => EditFault::TableFull,
+            PlanFault::NoRule => EditFault::NoRule,
+            PlanFault::DisableFull { rule } => EditFault::DisableFull { rule },
+            PlanFault::OutOfMemory => EditFault::OutOfMemory,
+        }
+    }
+}
+
 impl EditFault {
     ghost use Rattle.desk_state.specs.Answer.{refusal_of, given_text};
 
@@ -47,12 +73,16 @@ impl EditFault {
         ensures length { length (line_bytes out.new) ≤ length (line_bytes out.old) + 100 }
     {
         match self {
+            EditFault::NoRule => out.push_all(b"refused edit 11 NoRule"),
             EditFault::KeyReused { number, rules } => {
                 out.push_all(b"refused edit 12 KeyReused");
                 numbers_into(*number, *rules, out);
             }
             EditFault::TableFull => out.push_all(b"refused edit 13 TableFull"),
             EditFault::ReceiptsFull => out.push_all(b"refused edit 14 ReceiptsFull"),
+            EditFault::DisableFull { rule } => {
+                out.push_field(b"refused edit 15 DisableFull rule=", rule.get() as u64);
+            }
             EditFault::OutOfMemory => {}
         }
     }

@@ -2,20 +2,17 @@
 #![tactic(auto)]
 
 pub mod answer;
-pub mod ask;
 mod desk;
-pub mod edit;
-pub mod edit_key;
 pub mod fault;
-pub mod new_rule;
+mod plan;
 mod receipt;
+pub mod status;
 pub mod verdict;
 
 pub use answer::Answer;
-pub use ask::Ask;
+pub use assess::Ask;
 pub use desk::Desk;
-pub use edit::{Content, Edit};
-pub use edit_key::EditKey;
 pub use fault::EditFault;
-pub use new_rule::NewRule;
+pub use rule_edits::{Content, Edit, EditKey, NewRule};
+pub use status::DeskStatus;
 pub use verdict::{Origin, Verdict};

@@ -1,15 +1,16 @@
 //! The receipts of accepted edits.
 
-ghost use Rattle.std.specs.Prelude.{◌≡◌, ◌-◌, ◌<◌, ◌≤◌, ◌↔◌, [], ◌∷◌, ◌++◌, length, take, IsTrue, OnOk, OnErr, option_map};
+ghost use Rattle.std.specs.Prelude.{◌≡◌, ◌-◌, ◌<◌, ◌≤◌, ◌↔◌, [], ◌∷◌, ◌++◌, length, take, IsTrue, OnOk, OnErr, Some, None, option_map};
 ghost use Rattle.std.specs.Option.{option_copied};
 ghost use Rattle.policy_model.specs.declared.limits.TheConstants.{MOST_RECEIPTS};
 ghost use Rattle.policy_model.specs.Edits.{kept};
-ghost use Rattle.desk_state.specs.EditKey.{key_bytes};
+ghost use Rattle.rule_edits.specs.EditKey.{key_bytes};
 
-use crate::edit_key::EditKey;
 use policy_model::limits::MOST_RECEIPTS;
 use req_tree::Bytes;
+use rule_edits::EditKey;
 use std::alloc::{AllocError, Global};
+use std::collections::BTreeMap;
 use std::marker::Model;
 
 /// What is kept of an accepted edit, for good.
@@ -22,22 +23,25 @@ pub struct Receipt {
     pub rules: u32,
 }
 
-/// Up to `MOST_RECEIPTS` receipts, in the order of their numbers.
+/// Up to `MOST_RECEIPTS` receipts, in the order of their numbers; each is found by its key.
 #[derive(Drop)]
 pub struct Receipts {
     receipts: Vec<Receipt>,
+    /// Where in the list the receipt of a key stands.
+    places: BTreeMap<EditKey, u32>,
 }
 
 impl Model for Receipts {
     ghost use Rattle.std.specs.Prelude.{List, ◌≤◌, length};
     ghost use Rattle.policy_model.specs.declared.limits.TheConstants.{MOST_RECEIPTS};
     ghost use Rattle.desk_state.specs.declared.receipt.Receipt.{Receipt};
+    ghost use Rattle.desk_state.specs.Receipt.{HasPlaces};
 
     ghost Value = { List Receipt };
 
     ghost view = { λ r. r.receipts.items };
 
-    ghost invariant = { λ r. length r.receipts.items ≤ MOST_RECEIPTS };
+    ghost invariant = { λ r. (length r.receipts.items ≤ MOST_RECEIPTS) × HasPlaces r.places r.receipts.items };
 }
 
 impl Receipts {
@@ -48,6 +52,7 @@ impl Receipts {
     {
         Receipts {
             receipts: Vec::new(alloc),
+            places: BTreeMap::new(alloc),
         }
     }
 
@@ -69,28 +74,23 @@ impl Receipts {
     pub fn find(&self, key: &EditKey) -> Option<&Receipt>
         ensures { option_map receipt_of (option_copied result) ≡ kept (receipts_of self.now) (key_bytes key.now) }
     {
-        for receipt in &self.receipts {
-            if receipt.key.as_slice() == key.as_slice() {
-                return Some(receipt);
-            }
+        match self.places.get(key) {
+            None => None,
+            Some(place) => self.receipts.get(*place as usize),
         }
-        None
     }
 
-    /// Adds a receipt behind all others; where there is no memory, nothing changes.
+    /// Adds a receipt behind all others, whose key isn't kept; where there is no memory, nothing changes.
     pub fn push(&mut self, receipt: Receipt) -> Result<(), AllocError>
-        requires { length self.old < MOST_RECEIPTS }
+        requires room { length self.old < MOST_RECEIPTS }
+        requires new { kept (receipts_of self.old) (key_bytes receipt.key) ≡ None }
         ensures ok { OnOk result (self.new ≡ self.old ++ receipt ∷ []) }
         ensures err { OnErr result (self.new ≡ self.old) }
     {
-        self.receipts.push(receipt)?;
+        let place = self.receipts.len() as u32;
+        self.receipts.reserve(1)?;
+        self.places.insert(receipt.key.copied(), place)?;
+        let _ = self.receipts.push(receipt);
         Ok(())
-    }
-
-    /// Takes the last receipt back off.
-    pub fn pop(&mut self)
-        ensures { self.new ≡ take (length self.old - 1) self.old }
-    {
-        let _ = self.receipts.pop();
     }
 }

@@ -3,10 +3,11 @@ use crate::made::{ask, edit, fresh_desk, new_rule, subject};
 use authority_table::Moment;
 use desk_state::{Answer, Content, Desk, Edit, EditFault, Verdict};
 use req_tree::LineText;
+use rule_edits::{content_is, content_text};
 use std::alloc::Global;
 use std::test::Fail;
 
-fn answers(answer: &Result<Answer, EditFault>, text: &[u8]) -> bool {
+pub fn answers(answer: &Result<Answer, EditFault>, text: &[u8]) -> bool {
     let mut out = LineText::new();
     match answer {
         Ok(answer) => answer.line_into(&mut out),
@@ -15,7 +16,7 @@ fn answers(answer: &Result<Answer, EditFault>, text: &[u8]) -> bool {
     out.as_slice() == text
 }
 
-fn prints(verdict: &Verdict, text: &[u8]) -> bool {
+pub fn prints(verdict: &Verdict, text: &[u8]) -> bool {
     let mut out = LineText::new();
     verdict.line_into(&mut out);
     out.as_slice() == text
@@ -81,9 +82,9 @@ fn one_rule(alloc: Global) -> Option<bool> {
 // the canonical text of an edit, which is told again
 fn one_text(alloc: Global) -> Option<bool> {
     let content = Content::Add(new_rule(alloc, true)?);
-    let text = content.text(alloc).ok()?;
+    let text = content_text(alloc, &content).ok()?;
     let line = b"add execute allow 20.5 1000 a%20b default+inhibit always";
-    Some(text.as_slice() == line.as_slice() && content.is(line))
+    Some(text.as_slice() == line.as_slice() && content_is(&content, line))
 }
 
 #[test]

@@ -2,7 +2,11 @@
 #![tactic(auto)]
 
 #[cfg(test)]
+mod contents;
+#[cfg(test)]
 mod edits;
+#[cfg(test)]
+mod limits;
 #[cfg(test)]
 mod made;
 #[cfg(test)]

@@ -1,5 +1,5 @@
 //! Rules, edits and asks that the tests hand in.
-use authority_table::{Kind, Label, Moment, Priority};
+use authority_table::{Kind, Label, Moment, Priority, RuleId, Selector, Which};
 use code_facts::FactTable;
 use desk_state::{Ask, Content, Desk, Edit, EditKey, NewRule};
 use req_parser::parse;
@@ -15,14 +15,19 @@ pub fn fresh_desk(alloc: Global) -> Option<Desk> {
 
 /// A rule for what is executed that always means true.
 pub fn new_rule(alloc: Global, allow: bool) -> Option<NewRule> {
+    rule_of(alloc, Kind::Execute, allow, b"a b")
+}
+
+/// A rule of this kind and label that always means true.
+pub fn rule_of(alloc: Global, kind: Kind, allow: bool, label: &[u8]) -> Option<NewRule> {
     let priority = Priority::of(20_500_000)?;
     let expires = Moment::of(1000)?;
-    let label = Label::of(b"a b")?;
+    let label = Label::of(label)?;
     let req = parse(alloc, b"always").ok()?;
     let tree = SharedReq::new(alloc, req).ok()?;
     let text = Bytes::copy_of(alloc, b"always").ok()?;
     Some(NewRule {
-        kind: Kind::Execute,
+        kind,
         allow,
         priority,
         expires: Some(expires),
@@ -54,10 +59,25 @@ pub fn subject() -> Option<Subject> {
 }
 
 pub fn ask(subject: Option<Subject>) -> Ask {
+    ask_of(Kind::Execute, subject)
+}
+
+pub fn ask_of(kind: Kind, subject: Option<Subject>) -> Ask {
     let ask = Ask {
-        kind: Kind::Execute,
+        kind,
         subject,
         keep: true,
     };
     ask.copied()
+}
+
+/// The rule of a number, in one kind or in any.
+pub fn by_id(number: u32, kind: Option<Kind>) -> Option<Selector> {
+    let selector = Selector::by_id(RuleId::of(number)?, kind);
+    Some(selector.copied())
+}
+
+/// The rules of a label, in one kind or in any.
+pub fn by_label(label: &[u8], kind: Option<Kind>) -> Option<Selector> {
+    Selector::of(Which::Label(Label::of(label)?), kind)
 }

@@ -20,10 +20,9 @@ fn is_found(found: Option<&Rule>, number: u32) -> bool {
 
 fn kept(alloc: Global, table: &mut Table, number: u32, disabled: u32) -> Option<()> {
     let rule = rule(alloc, number, disabled)?;
-    if table.is_full() {
-        return None;
-    }
-    table.push(rule).ok()
+    let plan = table.plan_insert(alloc, rule).ok()?;
+    table.commit(plan);
+    Some(())
 }
 
 // the older of two rules governs, and the disabled one is latent

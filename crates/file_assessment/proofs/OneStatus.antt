@@ -2,8 +2,8 @@
 use Rattle.std.proofs.Common.{◌≡◌, ℕ, List, [], ◌∷◌, Option, Some, refl, sym, ap, ◌∙◌, subst}
 use Rattle.policy_model.specs.Rules.{Kind}
 use Rattle.policy_model.specs.History.{Event, Opening}
-use Rattle.assess_command.specs.declared.assess.Assessed.{Assessed}
-use Rattle.assess_command.specs.declared.assess.Assessed.TheVariants.{Accepted, Rejected, Refused}
+use Rattle.assess_command.specs.declared.line.Assessed.{Assessed}
+use Rattle.assess_command.specs.declared.line.Assessed.TheVariants.{Accepted, Rejected, Refused}
 use Rattle.assess_command.specs.Assessments.{Assesses}
 use Rattle.run_status.specs.declared.status.Status.{Status}
 use Rattle.run_status.specs.declared.status.Status.TheVariants as ends

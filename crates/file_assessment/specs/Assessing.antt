@@ -5,8 +5,8 @@ use Rattle.gk_io.specs.Shelf.{File}
 use Rattle.line_reader.specs.Lines.{with_lf}
 use Rattle.policy_model.specs.Rules.{Kind}
 use Rattle.policy_model.specs.History.{Event, Opening}
-use Rattle.assess_command.specs.declared.assess.Assessed.{Assessed}
-use Rattle.assess_command.specs.declared.assess.Assessed.TheVariants.{Accepted, Rejected, Refused}
+use Rattle.assess_command.specs.declared.line.Assessed.{Assessed}
+use Rattle.assess_command.specs.declared.line.Assessed.TheVariants.{Accepted, Rejected, Refused}
 use Rattle.assess_command.specs.Assessments.{Assesses}
 use Rattle.run_status.specs.declared.status.Status.{Status}
 use Rattle.run_status.specs.declared.status.Status.TheVariants as ends

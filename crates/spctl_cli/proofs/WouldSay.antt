@@ -12,8 +12,8 @@ use Rattle.language_commands.specs.Taken.{TakenOrRefused}
 use Rattle.run_status.specs.Files.{SaysWithoutFile, SaysOfFile, SaysOnFile}
 use Rattle.language_commands.specs.Compiling.{Compiles}
 use Rattle.language_commands.specs.Dumping.{Dumps, DumpsBy, begins_as_set}
-use Rattle.assess_command.specs.declared.assess.Assessed.{Assessed}
-use Rattle.assess_command.specs.declared.assess.Assessed.TheVariants as assessed
+use Rattle.assess_command.specs.declared.line.Assessed.{Assessed}
+use Rattle.assess_command.specs.declared.line.Assessed.TheVariants as assessed
 use Rattle.file_assessment.specs.declared.limits.TheConstants.{MOST_SIGNATURE_BYTES, MOST_CODE_BYTES}
 use Rattle.file_assessment.specs.Assessing.{SaysByClock, SaysWithCode, status_of}
 use Rattle.spctl_cli.specs.Commands.{FileCommand, compile, dump, assess}

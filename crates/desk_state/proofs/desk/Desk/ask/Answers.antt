@@ -2,7 +2,7 @@ use Rattle.std.proofs.Common.{refl, sym, ap, ◌∙◌}
 use Rattle.std.specs.Prelude.{option_map}
 use Rattle.req_tree.specs.Subject.{subject_of}
 use Rattle.policy_model.specs.History.{ask}
-use Rattle.desk_state.specs.Ask.{ask_of}
+use Rattle.assess.specs.Ask.{ask_of}
 use Rattle.desk_state.specs.Stands.{facts_of}
 use Rattle.desk_state.proofs.GoesOn.{stands_more, verdict_found, standing_answer}
 use Rattle.desk_state.proofs.desk.Desk.ask.Goals as goal

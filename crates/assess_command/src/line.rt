@@ -5,7 +5,7 @@ ghost use Rattle.line_text.specs.LineText.{line_bytes};
 ghost use Rattle.policy_model.specs.declared.limits.TheConstants.{GREATEST_MOMENT};
 ghost use Rattle.policy_model.specs.History.{Event, Opening};
 ghost use Rattle.authority_table.specs.Kind.{kind_of};
-ghost use Rattle.desk_state.specs.Ask.{ask_of};
+ghost use Rattle.assess.specs.Ask.{ask_of};
 ghost use Rattle.desk_state.specs.Stands.{Stands};
 ghost use Rattle.code_directory.specs.FaultText.{code_fault_text};
 ghost use Rattle.assess_command.specs.Files.{code_of};

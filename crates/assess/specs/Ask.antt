@@ -3,7 +3,7 @@ use Rattle.std.specs.Prelude.{option_map}
 use Rattle.req_tree.specs.Subject.{subject_of}
 use Rattle.authority_table.specs.Kind.{kind_of}
 use Rattle.policy_model.specs.Outcomes.{Ask}
-use Rattle.desk_state.specs.declared.ask.Ask as code
+use Rattle.assess.specs.declared.ask.Ask as code
 
 -- kind, subject and whether the outcome may be kept
 abbrev pub ask_of : code.Ask → Ask

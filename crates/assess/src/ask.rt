@@ -2,7 +2,7 @@
 
 ghost use Rattle.std.specs.Prelude.{◌≡◌, option_map};
 ghost use Rattle.req_tree.specs.Subject.{subject_of};
-ghost use Rattle.desk_state.specs.Ask.{ask_of};
+ghost use Rattle.assess.specs.Ask.{ask_of};
 
 use authority_table::Kind;
 use req_tree::Subject;
