@@ -5,3 +5,5 @@
 mod rows;
 #[cfg(test)]
 mod texts;
+#[cfg(test)]
+mod through;
