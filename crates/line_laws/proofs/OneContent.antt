@@ -1,12 +1,17 @@
 -- What words make is one thing.
-use Rattle.std.proofs.Common.{◌≡◌, Result, Ok, Err, sym, ap, ◌∙◌}
+use Rattle.std.proofs.Common.{◌≡◌, ◌≢◌, ℕ, List, Result, Ok, Err, sym, ap, ◌∙◌}
+use Rattle.req_tree.specs.Tree.{Tree}
+use Rattle.req_grammar.specs.Readings.{IsRequirementText}
 use Rattle.req_grammar.specs.Laws.{OneTree}
+use Rattle.req_tokens.specs.declared.fault.TextFault.{TextFault}
+use Rattle.req_tokens.specs.declared.fault.TextFault.TheVariants.{OutOfMemory}
+use Rattle.req_parser.specs.Failures.{FailsText}
 use Rattle.policy_model.specs.Contents.{Content, add, Edit}
 use Rattle.line_model.specs.LineFaults.{LineFault}
 use Rattle.line_model.specs.Fronts.{new_row}
 use Rattle.line_model.specs.Contents.{Worded, whole, adds, content_at}
 use Rattle.line_model.specs.Edits.{Edited, edit_at, Makes, keyed, IsContent, IsEdit, by_words}
-use Rattle.line_laws.specs.Laws.{TextAsksForOneContent, LineAsksForOneEdit}
+use Rattle.line_laws.specs.Laws.{TextAsksForOneContent, LineAsksForOneEdit, ContentHasNoFault, EditHasNoFault}
 
 ok_is : {A : Type 0} (a b : A) → ◌≡◌ {A = Result A LineFault} (Ok a) (Ok b) → a ≡ b
 ok_is a b e = cc
@@ -37,3 +42,24 @@ module _ (one_tree : OneTree) where
 
   pub line_asks_once : LineAsksForOneEdit
   line_asks_once line a b x y = one_edit (by_words edit_at line) a b x y
+
+module _ (apart : (text : List ℕ) (fault : TextFault) (tree : Tree) → fault ≢ OutOfMemory → FailsText text fault → IsRequirementText text tree → ⊥) where
+  no_fault : {A : Type 0} (make : Content → A) (worded : Worded) (a : A) (fault : LineFault) → Makes make worded (Ok a) → Makes make worded (Err fault) → ⊥
+  no_fault make (whole content) a fault x y = not_ok (make content) fault (sym y)
+  no_fault make (adds front text) a fault (Ok s, reads, x) (Ok t, reads_t, y) = not_ok (make (add (new_row front text t))) fault (sym y)
+  no_fault make (adds front text) a fault (Ok s, reads, x) (Err g, fails, y) = apart text g s fails.1 fails.0 reads
+  no_fault make (adds front text) a fault (Err g, fails, x) (read, reads, y) = not_ok a _ x
+
+  content_no_fault : (r : Result Worded LineFault) (a : Content) (fault : LineFault) → IsContent r (Ok a) → IsContent r (Err fault) → ⊥
+  content_no_fault (Err found) a fault x y = not_ok a found x
+  content_no_fault (Ok worded) a fault x y = no_fault (λ content. content) worded a fault x y
+
+  edit_no_fault : (r : Result Edited LineFault) (a : Edit) (fault : LineFault) → IsEdit r (Ok a) → IsEdit r (Err fault) → ⊥
+  edit_no_fault (Err found) a fault x y = not_ok a found x
+  edit_no_fault (Ok edited) a fault x y = no_fault (keyed edited.key) edited.worded a fault x y
+
+  pub content_has_no_fault : ContentHasNoFault
+  content_has_no_fault text c fault x y = content_no_fault (by_words content_at text) c fault x y
+
+  pub edit_has_no_fault : EditHasNoFault
+  edit_has_no_fault line e fault x y = edit_no_fault (by_words edit_at line) e fault x y

@@ -1,9 +1,10 @@
 -- What is read back of a line; each is proved on a function of src/laws.rt.
-use Rattle.std.specs.Prelude.{◌≡◌, ◌≢◌, ℕ, List, [], All, true, Ok}
+use Rattle.std.specs.Prelude.{◌≡◌, ◌≢◌, ℕ, List, [], All, true, Ok, Err}
 use Rattle.policy_model.specs.Keys.{is_key}
 use Rattle.policy_model.specs.Contents.{Content, Edit}
 use Rattle.policy_model.specs.Texts.{content_text}
 use Rattle.line_model.specs.Words.{words, spaced}
+use Rattle.line_model.specs.LineFaults.{LineFault}
 use Rattle.line_model.specs.Edits.{IsContentLine, IsEditLine}
 use Rattle.line_laws.specs.Limits.{FitsLine}
 use Rattle.line_laws.specs.EditTexts.{edit_text}
@@ -31,3 +32,11 @@ LineAsksForOneEdit = (line : List ℕ) (a b : Edit) → IsEditLine line (Ok a) �
 -- a canonical text is that of one content
 abbrev pub TextIsOfOneContent : Type 0
 TextIsOfOneContent = (a b : Content) → FitsLine a → FitsLine b → content_text a ≡ content_text b → a ≡ b
+
+-- a text that asks for a content has no fault
+abbrev pub ContentHasNoFault : Type 0
+ContentHasNoFault = (text : List ℕ) (c : Content) (fault : LineFault) → IsContentLine text (Ok c) → IsContentLine text (Err fault) → ⊥
+
+-- a line that asks for an edit has no fault
+abbrev pub EditHasNoFault : Type 0
+EditHasNoFault = (line : List ℕ) (e : Edit) (fault : LineFault) → IsEditLine line (Ok e) → IsEditLine line (Err fault) → ⊥

@@ -1,10 +1,11 @@
 //! Laws over the definitions: functions that do nothing and whose contracts are the laws.
 
 ghost use Rattle.line_laws.specs.WordLaws.{BytesReadBack, LabelReadsBack, NameReadsBack, MomentReadsBack, ExpiryReadsBack, NumberReadsBack, PriorityReadsBack, KindReadsBack, AnyKindReadsBack, VerdictReadsBack, FlagsReadBack, BytesPrintAsWord, ExpiryPrintsAsWord, PriorityPrintsAsWord, KindPrintsAsWord, VerdictPrintsAsWord, FlagsPrintAsWord};
-ghost use Rattle.line_laws.specs.Laws.{WordsReadBack, ContentReadsBack, EditReadsBack, TextAsksForOneContent, LineAsksForOneEdit, TextIsOfOneContent};
+ghost use Rattle.line_laws.specs.Laws.{WordsReadBack, ContentReadsBack, EditReadsBack, TextAsksForOneContent, LineAsksForOneEdit, TextIsOfOneContent, ContentHasNoFault, EditHasNoFault};
 
 use policy_model::laws::places_are_the_fraction;
 use req_grammar::laws::texts_say_one_tree;
+use req_parser::laws::a_failing_text_is_no_requirement;
 
 /// Bytes and labels are read back from the words that they print as.
 pub fn labels_read_back()
@@ -66,6 +67,14 @@ pub fn texts_ask_for_one_content()
     ensures edit { LineAsksForOneEdit }
 {
     texts_say_one_tree();
+}
+
+/// What asks for a content or an edit has no fault.
+pub fn what_is_asked_has_no_fault()
+    ensures content { ContentHasNoFault }
+    ensures edit { EditHasNoFault }
+{
+    a_failing_text_is_no_requirement();
 }
 
 /// A canonical text is that of one content.

@@ -1,0 +1,5 @@
+//! The program's edits are told by their texts: laws over `rule_edits`.
+#![tactic(auto)]
+
+mod fits;
+pub mod laws;
