@@ -1,6 +1,6 @@
 -- Lines of edits and of contents with what they ask for, or the first fault with its column, computed by the definitions
 -- alone. What the texts of requirements read as is handed in.
-use Rattle.std.specs.Prelude.{◌≡◌, ℕ, pos, List, [], ◌∷◌, ◌++◌, replicate, refl, codes, Some, None, Result, Ok, Err, false}
+use Rattle.std.specs.Prelude.{◌≡◌, ℕ, pos, List, [], ◌∷◌, ◌++◌, replicate, refl, codes, Some, None, Ok, Err, false}
 use Rattle.std.specs.Fmt.{digits}
 use Rattle.hex.specs.Hex.{decode_pairs}
 use Rattle.req_tree.specs.Tree.{always}

@@ -1,5 +1,5 @@
 -- The two parts of a content's text are that text.
-use Rattle.std.proofs.Common.{◌≡◌, ◌++◌, [], refl}
+use Rattle.std.proofs.Common.{◌≡◌, ◌++◌, refl}
 use Rattle.std.proofs.lemmas.List.{append-nil}
 use Rattle.policy_model.specs.Contents.{Content, add, remove, enable, disable, expire, switch}
 use Rattle.policy_model.specs.Texts.{content_text}

@@ -1,5 +1,5 @@
 -- The fault of a text that reads as no requirement is the fault of the words that it ends.
-use Rattle.std.proofs.Common.{◌≡◌, ◌≢◌, ℕ, List, Ok, Err, refl}
+use Rattle.std.proofs.Common.{ℕ, List, Ok, Err, refl}
 use Rattle.line_model.specs.Fronts.{Front}
 use Rattle.line_model.specs.Contents.{adds}
 use Rattle.line_words.specs.declared.fault.LineFault.{LineFault}

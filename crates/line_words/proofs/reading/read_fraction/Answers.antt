@@ -1,5 +1,5 @@
 -- A number below a million, and as many zeros as a fraction has at most.
-use Rattle.std.proofs.Common.{ℕ, ◌≤◌, ◌<◌, ◌-◌, ◌*◌, ◌^◌, length, zero, arith}
+use Rattle.std.proofs.Common.{◌≤◌, ◌<◌, ◌-◌, ◌*◌, ◌^◌, length, zero, arith}
 use Rattle.std.proofs.Math.Nat.{pow-le-pow_right, mul-le-mul}
 use Rattle.line_words.proofs.reading.read_fraction.Goals as goal
 

@@ -1,5 +1,5 @@
 -- A byte that was read joins those in front of it.
-use Rattle.std.proofs.Common.{◌≡◌, ◌+◌, ◌∷◌, [], Some, ◌∙◌, ap, sym, arith, rules}
+use Rattle.std.proofs.Common.{◌≡◌, ◌∷◌, [], Some, ◌∙◌, ap, sym, arith, rules}
 use Rattle.line_model.specs.WordTexts.{joined, bytes_in}
 use Rattle.line_words.proofs.BytesRead.{joined-joined}
 use Rattle.line_words.proofs.word_text.read_text.Goals as goal

@@ -1,4 +1,4 @@
-use Rattle.std.proofs.Common.{◌≡◌, ◌≤◌, ℕ, length, Some}
+use Rattle.std.proofs.Common.{◌≡◌, ◌≤◌, length, Some}
 use Rattle.line_model.specs.WordTexts.{joined, bytes_in}
 use Rattle.line_words.proofs.word_text.read_text.Given as goal
 
