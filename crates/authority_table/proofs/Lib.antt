@@ -8,3 +8,6 @@ mod RoomFor
 mod TallyGoesOn
 mod Changed
 mod Planned
+mod Spanned
+mod Rising
+mod Removed

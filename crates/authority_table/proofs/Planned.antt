@@ -1,6 +1,6 @@
 -- Plans, and what they leave.
 use Rattle.std.proofs.Common.{◌≡◌, ℕ, ◌+◌, ◌<◌, ◌≤◌, length, List, [], ◌∷◌, ◌++◌, length-append, refl, sym, ap, ◌∙◌, subst, arith}
-use Rattle.std.specs.Prelude.{true, false, nat_lt, Some, None, if◌then◌else◌, vec_capacity}
+use Rattle.std.specs.Prelude.{Bool, true, false, nat_lt, Some, None, if◌then◌else◌, vec_capacity}
 use Rattle.std.specs.declared.vec.Vec.{Vec}
 use Rattle.std.specs.declared.alloc.Global.{Global}
 use Rattle.std.specs.Option.{option_or}
@@ -27,7 +27,9 @@ use Rattle.authority_table.specs.Touched.{IsTouched}
 use Rattle.authority_table.specs.Tally.{IsTally}
 use Rattle.authority_table.specs.Selector.{selector_of, content_by}
 use Rattle.authority_table.specs.Prepared.{HasRoom, Takes, stepped, IsPlanFor, planned, IsPlan}
+use Rattle.authority_table.specs.Spans.{AreRising}
 use Rattle.authority_table.proofs.RoomFor.{room_grows}
+use Rattle.authority_table.proofs.Rising.{rising_after}
 use Rattle.authority_table.proofs.TallyGoesOn.{none_full, rows_by, touched_rows}
 
 -- a full table refuses one more, and no other does
@@ -81,14 +83,18 @@ change_fits p s c rows e h = subst (λ x. Takes x rows) e h
 pub change_leaves : (p : Prepared) (s : code.Selector) (c : RowChange) (old : List Row) (new : List Row) → p.step ≡ Change s c → new ≡ rows_after 0 (content_by s c) old → new ≡ planned p old
 change_leaves p s c old new e is = is ∙ ap (λ x. stepped x old) (sym e)
 
--- the memory stays enough
-pub held_more : (old new : Vec Rule Global) (rule : Rule) (room : Vec Rule Global) → HasRoom (length old.items) room → new.items ≡ old.items ++ rule ∷ [] → room_for (length new.items) ≤ vec_capacity new → IsHeld new
-held_more old new rule room h is held =
+-- what always holds, after one more rule came
+pub held_more : (old new : Vec Rule Global) (rises : Bool) (rule : Rule) (room : Vec Rule Global) → HasRoom (length old.items) room → new.items ≡ old.items ++ rule ∷ [] →
+    room_for (length new.items) ≤ vec_capacity new → (rises ≡ true → AreRising (old.items ++ rule ∷ [])) → IsHeld new rises
+held_more old new rises rule room h is held up =
     let one : length new.items ≡ length old.items + 1 = ap length is ∙ length-append old.items (rule ∷ []) in
-    record { few = omega (arith, h.few, one); held = held }
+    record { few = omega (arith, h.few, one); held = held; rise = λ r. subst AreRising (sym is) (up r) }
 
-pub held_fewer : (old new : Vec Rule Global) → IsHeld old → length new.items ≤ length old.items → vec_capacity new ≡ vec_capacity old → IsHeld new
-held_fewer old new h fewer same = record {
+-- and after rules were changed
+pub held_after : (s : code.Selector) (c : RowChange) (old new : Vec Rule Global) (rising : Bool) → IsHeld old rising → rows_of new.items ≡ rows_after 0 (content_by s c) (rows_of old.items) →
+    length new.items ≤ length old.items → vec_capacity new ≡ vec_capacity old → IsHeld new rising
+held_after s c old new rising h rows fewer same = record {
   few = omega (arith, h.few, fewer);
   held = omega (arith, h.held, room_grows (length new.items) (length old.items) fewer, same);
+  rise = λ r. rising_after s c old.items new.items rows (h.rise r);
 }

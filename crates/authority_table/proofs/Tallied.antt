@@ -42,7 +42,8 @@ pub full_passed : (s : Selector) (rows : List Row) (r : Row) → nat_le MOST_DIS
     least_id (full_rows (disable s) (rows ++ r ∷ [])) ≡ least_id (full_rows (disable s) rows)
 full_passed s rows r full sel = ap least_id (filter_passed (is_full s) rows r (both _ _ true false sel full))
 
-and_false : (b : Bool) → (false && b) ≡ false
+-- a test that needs two facts, of which one fails
+pub and_false : (b : Bool) → (false && b) ≡ false
 and_false true = refl
 and_false false = refl
 

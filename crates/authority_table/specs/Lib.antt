@@ -13,4 +13,5 @@ pub mod Touched
 pub mod Tally
 pub mod Changes
 pub mod Prepared
+pub mod Spans
 pub mod Held

@@ -18,6 +18,7 @@ mod rule_id;
 mod rules;
 mod selector;
 mod short_req;
+mod span;
 mod table;
 mod tally;
 mod touched;

@@ -1,6 +1,6 @@
 //! For how many rules a table has memory.
 
-ghost use Rattle.std.specs.Prelude.{◌≡◌, ◌<◌, ◌++◌, [], ◌∷◌, length, IfOk, OnOk, OnErr};
+ghost use Rattle.std.specs.Prelude.{◌≡◌, ◌<◌, ◌≤◌, ◌++◌, [], ◌∷◌, length, IfOk, OnOk, OnErr, vec_capacity};
 ghost use Rattle.policy_model.specs.declared.limits.TheConstants.{MOST_RULES};
 ghost use Rattle.authority_table.specs.Rooms as rooms;
 
@@ -29,7 +29,6 @@ pub(crate) fn room_for(count: usize) -> usize
     }
 }
 
-ghost use Rattle.authority_table.specs.Held.{IsHeld};
 ghost use Rattle.authority_table.specs.Prepared.{HasRoom};
 
 /// Memory for one rule more, where a table of so many rules may have none left; else nothing.
@@ -47,9 +46,9 @@ pub(crate) fn room_behind(alloc: Global, count: usize) -> Result<Vec<Rule>, Allo
 
 /// Adds a rule behind all others; where there is no memory, the rules are as before.
 pub(crate) fn pushed(rules: &mut Vec<Rule>, rule: Rule) -> Result<(), AllocError>
-    requires held { IsHeld rules.old }
+    requires held { rooms.room_for (length rules.old.items) ≤ vec_capacity rules.old }
     requires room { length rules.old.items < MOST_RULES }
-    ensures held { IsHeld rules.new }
+    ensures held { rooms.room_for (length rules.new.items) ≤ vec_capacity rules.new }
     ensures ok { OnOk result (rules.new.items ≡ rules.old.items ++ rule ∷ []) }
     ensures err { OnErr result (rules.new.items ≡ rules.old.items) }
 {

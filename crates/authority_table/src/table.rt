@@ -21,6 +21,7 @@ use crate::rule::Rule;
 use crate::rule_id::RuleId;
 use crate::rules::Rules;
 use crate::selector::Selector;
+use crate::span::rises_with;
 use crate::tally::{refused, tallied};
 use crate::touched::Touched;
 use fact_values::Facts;
@@ -34,6 +35,8 @@ use std::sync::Arc;
 #[derive(Drop)]
 pub struct Table {
     rules: Vec<Rule>,
+    /// The numbers of the rules are known to rise.
+    rising: bool,
 }
 
 impl Model for Table {
@@ -49,7 +52,7 @@ impl Model for Table {
 
     ghost view = { λ t. t.rules.items };
 
-    ghost invariant = { λ t. IsHeld t.rules };
+    ghost invariant = { λ t. IsHeld t.rules t.rising };
 }
 
 impl Table {
@@ -69,6 +72,7 @@ impl Table {
     {
         Table {
             rules: Vec::new(alloc),
+            rising: true,
         }
     }
 
@@ -92,7 +96,10 @@ impl Table {
         ensures ok { OnOk result (self.new ≡ self.old ++ rule ∷ []) }
         ensures err { OnErr result (self.new ≡ self.old) }
     {
-        pushed(&mut self.rules, rule)
+        let rising = rises_with(&self.rules, self.rising, &rule);
+        pushed(&mut self.rules, rule)?;
+        self.rising = rising;
+        Ok(())
     }
 
     /// The rule of a number.
@@ -106,14 +113,14 @@ impl Table {
     pub fn selects(&self, selector: &Selector) -> bool
         ensures { result ≡ list_any (selects (selector_of selector.now)) (rows_of self.now) }
     {
-        tallied(&self.rules, selector).count > 0
+        tallied(&self.rules, self.rising, selector).count > 0
     }
 
     /// Of the selected rules that can't be disabled once more the least number.
     pub fn disable_full(&self, selector: &Selector) -> Option<RuleId>
         ensures { result ≡ least_id (full_rows (disable (selector_of selector.now)) (rows_of self.now)) }
     {
-        tallied(&self.rules, selector).full
+        tallied(&self.rules, self.rising, selector).full
     }
 
     /// Plans to add a rule behind all others, and takes the memory for it.
@@ -145,7 +152,7 @@ impl Table {
         ensures planned { (n : ℕ) → IfOk result (λ plan. IsPlan plan (rows_of self.now) (rows_after n (content_by selector.now change) (rows_of self.now))
             (touched_by n (content_by selector.now change) (rows_of self.now))) }
     {
-        let tally = tallied(&self.rules, selector);
+        let tally = tallied(&self.rules, self.rising, selector);
         match refused(&tally, &change) {
             Some(fault) => Err(fault),
             None => Ok(Prepared {
@@ -166,9 +173,12 @@ impl Table {
     {
         let Prepared { step, .. } = plan;
         match step {
-            Step::Insert { rule, room } => changes::insert(&mut self.rules, rule, room),
+            Step::Insert { rule, room } => {
+                self.rising = rises_with(&self.rules, self.rising, &rule);
+                changes::insert(&mut self.rules, rule, room)
+            }
             Step::Change { selector, change } => {
-                changes::change(&mut self.rules, &selector, &change)
+                changes::change(&mut self.rules, self.rising, &selector, &change)
             }
         }
     }

@@ -8,6 +8,7 @@ ghost use Rattle.policy_model.specs.Changes.{selects};
 ghost use Rattle.policy_model.specs.Refusals.{least_id};
 ghost use Rattle.authority_table.specs.Rule.{row_of, rows_of};
 ghost use Rattle.authority_table.specs.Selector.{selector_of};
+ghost use Rattle.authority_table.specs.Spans.{AreRising};
 ghost use Rattle.authority_table.specs.Tally.{IsTally};
 
 use crate::fault::PlanFault;
@@ -15,6 +16,7 @@ use crate::row_change::RowChange;
 use crate::rule::Rule;
 use crate::rule_id::RuleId;
 use crate::selector::Selector;
+use crate::span::span_of;
 use crate::touched::Touched;
 use policy_model::limits::MOST_DISABLES;
 
@@ -90,8 +92,18 @@ fn lesser(id: RuleId, other: Option<RuleId>) -> RuleId
     }
 }
 
-/// What an edit with this selector would touch of the rules: one look at each.
-pub(crate) fn tallied(rules: &[Rule], selector: &Selector) -> Tally
+/// What an edit with this selector would touch of the rules.
+pub(crate) fn tallied(rules: &[Rule], rising: bool, selector: &Selector) -> Tally
+    requires few { length rules.now ≤ MOST_RULES }
+    requires rise { rising ≡ true → AreRising rules.now }
+    ensures { IsTally (selector_of selector.now) (rows_of rules.now) result }
+{
+    let span = span_of(rules, rising, selector);
+    tallied_each(&rules[span.from..span.to], selector)
+}
+
+/// The same by one look at each rule.
+fn tallied_each(rules: &[Rule], selector: &Selector) -> Tally
     requires { length rules.now ≤ MOST_RULES }
     ensures { IsTally (selector_of selector.now) (rows_of rules.now) result }
 {

@@ -5,7 +5,7 @@ use Rattle.policy_model.specs.Changes.{selects}
 use Rattle.authority_table.specs.Rule.{row_of, rows_of}
 use Rattle.authority_table.specs.Selector.{selector_of}
 use Rattle.authority_table.proofs.Changed.{kept_rows}
-use Rattle.authority_table.proofs.changes.remove.Goals as goal
+use Rattle.authority_table.proofs.changes.remove_each.Goals as goal
 
 pub returns-clause-rows : goal.returns-clause-rows
 returns-clause-rows c =

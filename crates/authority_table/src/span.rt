@@ -1,0 +1,68 @@
+//! Where in a list of rules the selected ones stand.
+
+ghost use Rattle.std.specs.Prelude.{◌≡◌, ◌<◌, ◌≤◌, ◌++◌, [], ◌∷◌, length, IsTrue, true, false, nat_lt};
+ghost use Rattle.std.specs.List.Sorted.{IsPartitionPoint};
+ghost use Rattle.policy_model.specs.Contents as model;
+ghost use Rattle.policy_model.specs.Contents.{by_id};
+ghost use Rattle.authority_table.specs.Rule.{rows_of};
+ghost use Rattle.authority_table.specs.Selector.{selector_of};
+ghost use Rattle.authority_table.specs.Spans.{AreRising, IsSpan};
+
+use crate::rule::Rule;
+use crate::rule_id::RuleId;
+use crate::selector::{Selector, Which};
+
+/// From a place, up to another.
+#[derive(Clone, Copy, Drop)]
+pub struct Span {
+    pub from: usize,
+    pub to: usize,
+}
+
+/// A span outside of which no rule is selected. Where the numbers of the rules rise, one is searched for by halves.
+pub(crate) fn span_of(rules: &[Rule], rising: bool, selector: &Selector) -> Span
+    requires { rising ≡ true → AreRising rules.now }
+    ensures { IsSpan (selector_of selector.now) (rows_of rules.now) result }
+{
+    match &selector.which {
+        Which::Id(id) if rising => span_of_id(rules, *id),
+        _ => Span {
+            from: 0,
+            to: rules.len(),
+        },
+    }
+}
+
+fn span_of_id(rules: &[Rule], id: RuleId) -> Span
+    requires { AreRising rules.now }
+    ensures { (selector : model.Selector) → selector.which ≡ by_id id → IsSpan selector (rows_of rules.now) result }
+{
+    let from = place_of(rules, id);
+    if from < rules.len() {
+        Span { from, to: from + 1 }
+    } else {
+        Span { from, to: from }
+    }
+}
+
+/// The first place whose rule has this number or a greater one.
+fn place_of(rules: &[Rule], id: RuleId) -> usize
+    requires { AreRising rules.now }
+    ensures within { result ≤ length rules.now }
+    ensures place { IsPartitionPoint (λ r. nat_lt r.id id ≡ true) (λ r. nat_lt r.id id ≡ false) rules.now result }
+{
+    rules.partition_point(|rule| rule.id < id)
+}
+
+/// Whether the numbers of rules still rise with one more behind them.
+pub(crate) fn rises_with(rules: &[Rule], rising: bool, rule: &Rule) -> bool
+    requires { rising ≡ true → AreRising rules.now }
+    ensures { result ≡ true → AreRising (rules.now ++ rule.now ∷ []) }
+{
+    let count = rules.len();
+    if count == 0 {
+        true
+    } else {
+        rising && rules[count - 1].id < rule.id
+    }
+}
