@@ -1,2 +1,2 @@
-mod NoLf
+mod AsksEdits
 mod OneLineMore

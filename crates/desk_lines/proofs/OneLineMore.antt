@@ -5,7 +5,7 @@ use Rattle.policy_model.specs.History.{Opening}
 use Rattle.desk_state.specs.declared.desk.Desk.{Desk}
 use Rattle.desk_state.specs.Stands.{Stands}
 use Rattle.session_model.specs.Laws.{FrontAsksTheSame}
-use Rattle.session_model.specs.LineFaults.{LineFault}
+use Rattle.line_model.specs.LineFaults.{LineFault}
 use Rattle.session_model.specs.Lines.{Request, Lined, lined, Asks, IsAsked}
 use Rattle.session_model.specs.Session.{State, Session, Replies}
 use Rattle.desk_lines.specs.Answered.{HasAnswered, HasReplied}

@@ -1,7 +1,7 @@
 -- What a desk that answers lines has answered. This project's own.
 use Rattle.std.specs.Prelude.{ℕ, List, Result}
 use Rattle.policy_model.specs.History.{Opening}
-use Rattle.session_model.specs.LineFaults.{LineFault}
+use Rattle.line_model.specs.LineFaults.{LineFault}
 use Rattle.session_model.specs.Lines.{Request}
 use Rattle.session_model.specs.Session.{State, Session, Replies}
 use Rattle.desk_state.specs.Stands.{Stands}

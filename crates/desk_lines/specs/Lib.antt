@@ -1,3 +1,2 @@
-pub mod AddFront
 pub mod Answered
 pub mod Requests

@@ -1,10 +1,9 @@
 //! A desk that answers the lines of a session.
 #![tactic(auto)]
 
-mod add_front;
 mod lines;
 mod request;
-mod requirement;
 mod session;
+mod status;
 
 pub use session::session_lines;

@@ -1,21 +1,25 @@
 //! A desk that answers the lines of a session.
 
-ghost use Rattle.std.specs.Prelude.{◌≡◌, ◌≤◌, [], ℕ, List, length, Ok, Err, OnOk, OnErr};
+ghost use Rattle.std.specs.Prelude.{◌≡◌, ◌≢◌, ◌↔◌, ◌≤◌, [], ℕ, List, length, Ok, Err, OnOk, OnErr, IsTrue};
 ghost use Rattle.line_text.specs.LineText.{line_bytes};
 ghost use Rattle.policy_model.specs.History.{Opening};
 ghost use Rattle.session_model.specs.Session.{State};
 ghost use Rattle.session_model.specs.Lines as model;
 ghost use Rattle.line_session.specs.declared.limits.TheConstants.{REPLY_LIMIT};
 ghost use Rattle.line_words.specs.Faults.{fault_of};
-ghost use Rattle.desk_state.specs.Ask.{ask_of};
-ghost use Rattle.desk_state.specs.Edit.{edit_of};
+ghost use Rattle.line_words.specs.declared.fault.LineFault.TheVariants.{OutOfMemory};
+ghost use Rattle.assess.specs.Ask.{ask_of};
+ghost use Rattle.rule_edits.specs.Edit.{edit_of};
 
-use crate::request::{Request, Unread, read_request};
+use crate::request::{Request, read_request};
+use crate::status::status_into;
+use assess::Ask;
 use authority_table::Moment;
-use desk_state::{Ask, Desk, Edit, EditFault};
+use desk_state::{Desk, EditFault};
 use line_session::Responder;
 use line_text::LineText;
 use line_words::LineFault;
+use rule_edits::Edit;
 use session_model::laws::the_front_asks_the_same;
 use std::alloc::{AllocError, Global};
 
@@ -34,11 +38,7 @@ impl Responder for DeskLines<'_> {
         the_front_asks_the_same();
         match read_request(alloc, line) {
             Ok(request) => self.reply(alloc, &request, out),
-            Err(Unread::Refused(fault)) => {
-                self.refuse(fault, out);
-                Ok(())
-            }
-            Err(Unread::OutOfMemory) => Err(AllocError),
+            Err(fault) => self.refuse(fault, out),
         }
     }
 }
@@ -72,17 +72,24 @@ impl<'a> DeskLines<'a> {
         match request {
             Request::Tick(at) => self.tick(*at, out),
             Request::Assess(ask) => self.assess(ask, out),
+            Request::Status => self.status(out),
             Request::Edit(edit) => return self.edit(alloc, edit, out),
         }
         Ok(())
     }
 
-    fn refuse(&self, fault: LineFault, out: &mut LineText)
+    /// The refusal of a line; none where memory ran out.
+    fn refuse(&self, fault: LineFault, out: &mut LineText) -> Result<(), AllocError>
         requires { line_bytes out.old ≡ [] }
         ensures room { length (line_bytes out.new) ≤ REPLY_LIMIT }
-        ensures replies { HasReplied self.now.desk.now self.now.desk.now (Err (fault_of fault)) (line_bytes out.new) }
+        ensures replies { OnOk result ((fault ≢ OutOfMemory)
+            × HasReplied self.now.desk.now self.now.desk.now (Err (fault_of fault)) (line_bytes out.new)) }
     {
+        if is_out_of_memory(&fault) {
+            return Err(AllocError);
+        }
         fault.line_into(out);
+        Ok(())
     }
 
     fn tick(&mut self, at: Moment, out: &mut LineText)
@@ -106,6 +113,15 @@ impl<'a> DeskLines<'a> {
         verdict.line_into(out);
     }
 
+    fn status(&self, out: &mut LineText)
+        requires { line_bytes out.old ≡ [] }
+        ensures room { length (line_bytes out.new) ≤ REPLY_LIMIT }
+        ensures replies { HasReplied self.now.desk.now self.now.desk.now (Ok model.status) (line_bytes out.new) }
+    {
+        let standing = self.desk.status();
+        status_into(&standing, out);
+    }
+
     fn edit(&mut self, alloc: Global, edit: &Edit, out: &mut LineText) -> Result<(), AllocError>
         requires { line_bytes out.old ≡ [] }
         ensures name { self.new.desk.ghost_name ≡ self.old.desk.ghost_name }
@@ -122,4 +138,10 @@ impl<'a> DeskLines<'a> {
         }
         Ok(())
     }
+}
+
+fn is_out_of_memory(fault: &LineFault) -> bool
+    ensures { IsTrue result ↔ (fault.now ≡ OutOfMemory) }
+{
+    matches!(fault, LineFault::OutOfMemory)
 }

@@ -1,83 +1,76 @@
 //! What a line of a session asks for.
 
-ghost use Rattle.std.specs.Prelude.{◌≡◌, ℕ};
-ghost use Rattle.session_model.specs.Lines.{lined, lined_at, tick_at, ask_at, add_at};
+ghost use Rattle.std.specs.Prelude.{◌≡◌, Bool, ℕ};
+ghost use Rattle.session_model.specs.Lines as model;
+ghost use Rattle.session_model.specs.Lines.{lined, lined_at, tick_at, keep_at, ask_at, built_at, as_lined};
+ghost use Rattle.line_model.specs.Edits.{edit_at};
 ghost use Rattle.line_words.specs.Left.{left, Gives};
-ghost use Rattle.desk_state.specs.Ask.{ask_of};
+ghost use Rattle.assess.specs.Ask.{ask_of};
 ghost use Rattle.desk_lines.specs.Requests.{Tells};
 
-use crate::add_front::read_front;
-use crate::requirement::{read_requirement, read_text};
+use assess::Ask;
 use authority_table::Moment;
-use desk_state::{Ask, Edit};
 use line_text::{LINE_HELD, LINE_LIMIT};
 use line_words::{Cursor, LineFault};
-use std::alloc::{AllocError, Global};
+use rule_edits::{Edit, read_edit};
+use std::alloc::Global;
 
 /// What a line asks for.
 #[derive(Drop)]
 pub enum Request {
     Tick(Moment),
     Assess(Ask),
+    Status,
     Edit(Edit),
 }
 
-/// Why a line makes no request: the first fault in it, or memory ran out.
-#[derive(Drop)]
-pub enum Unread {
-    Refused(LineFault),
-    OutOfMemory,
-}
-
-impl From<LineFault> for Unread {
-    ghost use Rattle.std.specs.Prelude.{◌≡◌};
-    ghost use Rattle.desk_lines.specs.declared.request.Unread.TheVariants.{Refused};
-
-    ghost from_gives = { λ fault unread. unread ≡ Refused fault };
-
-    fn from(fault: LineFault) -> Unread {
-        Unread::Refused(fault)
-    }
-}
-
-impl From<AllocError> for Unread {
-    ghost use Rattle.std.specs.Prelude.{◌≡◌};
-    ghost use Rattle.desk_lines.specs.declared.request.Unread.TheVariants.{OutOfMemory};
-
-    ghost from_gives = { λ _ unread. unread ≡ OutOfMemory };
-
-    fn from(_error: AllocError) -> Unread {
-        Unread::OutOfMemory
-    }
-}
-
 /// What the line asks for. A longer line than may be is refused in the first column past the limit.
-pub fn read_request(alloc: Global, line: &[u8]) -> Result<Request, Unread>
+pub fn read_request(alloc: Global, line: &[u8]) -> Result<Request, LineFault>
     ensures { Tells result (lined line.now) }
 {
     if line.len() <= LINE_LIMIT {
         read_form(alloc, &mut Cursor::of(line))
     } else {
-        Err(Unread::Refused(LineFault::BadLine {
+        Err(LineFault::BadLine {
             column: LINE_HELD as u32,
-        }))
+        })
     }
 }
 
 /// A line by its first word.
-fn read_form(alloc: Global, words: &mut Cursor) -> Result<Request, Unread>
+fn read_form(alloc: Global, words: &mut Cursor) -> Result<Request, LineFault>
     ensures { Tells result (lined_at (left words.old)) }
 {
     let form = words.next()?;
     if form == b"tick".as_slice() {
         Ok(Request::Tick(read_tick(words)?))
     } else if form == b"assess".as_slice() {
-        Ok(Request::Assess(read_ask(words)?))
-    } else if form == b"add".as_slice() {
-        read_add(alloc, words)
+        Ok(Request::Assess(read_built_ask(words)?))
+    } else if form == b"status".as_slice() {
+        words.end()?;
+        Ok(Request::Status)
+    } else if is_later(form) {
+        Err(LineFault::NotBuilt)
     } else {
-        Err(Unread::Refused(LineFault::NotBuilt))
+        read_other(alloc, form, words)
     }
+}
+
+/// An edit, by its first word.
+fn read_other(alloc: Global, form: &[u8], words: &mut Cursor) -> Result<Request, LineFault>
+    ensures { Tells result (as_lined model.edits (edit_at form.now (left words.old))) }
+{
+    match read_edit(alloc, form, words) {
+        Ok(edit) => Ok(Request::Edit(edit)),
+        Err(fault) => Err(fault),
+    }
+}
+
+/// The first word of a form that isn't built yet.
+fn is_later(word: &[u8]) -> bool
+    ensures { result ≡ model.is_later word.now }
+{
+    word == b"begin".as_slice() || word == b"finish".as_slice()
 }
 
 /// MOMENT
@@ -89,27 +82,42 @@ fn read_tick(words: &mut Cursor) -> Result<Moment, LineFault>
     Ok(at)
 }
 
-/// KIND and the subject
+/// An ask; so far none that forbids to keep its outcome.
+fn read_built_ask(words: &mut Cursor) -> Result<Ask, LineFault>
+    ensures { Gives ask_of result (built_at (left words.old)) }
+{
+    let ask = read_ask(words)?;
+    if ask.keep {
+        Ok(ask)
+    } else {
+        Err(LineFault::NotBuilt)
+    }
+}
+
+/// KIND, the subject, and `nocache` or nothing
 fn read_ask(words: &mut Cursor) -> Result<Ask, LineFault>
     ensures { Gives ask_of result (ask_at (left words.old)) }
 {
     let kind = words.kind()?;
     let subject = words.subject()?;
-    words.end()?;
+    let keep = read_keep(words)?;
     Ok(Ask {
         kind,
         subject,
-        keep: true,
+        keep,
     })
 }
 
-/// KEY KIND VERDICT PRIORITY EXPIRY LABEL FLAGS REQUIREMENT
-fn read_add(alloc: Global, words: &mut Cursor) -> Result<Request, Unread>
-    ensures { Tells result (add_at (left words.old)) }
+/// Whether the outcome may be kept: the line's end, or `nocache` and the end.
+fn read_keep(words: &mut Cursor) -> Result<bool, LineFault>
+    ensures { Gives (λ (keep : Bool). keep) result (keep_at (left words.old)) }
 {
-    let front = read_front(words)?;
-    let text = read_text(words)?;
-    let req = read_requirement(alloc, text)?;
-    let edit = front.with_requirement(alloc, text, req)?;
-    Ok(Request::Edit(edit))
+    let Err(misfit) = words.end() else {
+        return Ok(true);
+    };
+    if words.next()? != b"nocache".as_slice() {
+        return Err(misfit);
+    }
+    words.end()?;
+    Ok(false)
 }

@@ -12,6 +12,7 @@ usage: gatekeeper [--facts NAME] STORE COMMAND [WORDS]
   gatekeeper :memory: session                   answers each line of standard input by a line
   gatekeeper STORE assess KIND NAME [CODE]      assesses the code of a signature file at the system's time
   gatekeeper STORE compile NAME                 writes the blob of the requirement whose text the file is
+  gatekeeper STORE compileset NAME              writes the blob of the set of requirements whose text the file is
   gatekeeper STORE dump NAME                    writes the text of the requirement or set whose blob the file is
   gatekeeper --help, -h                         shows this text
   gatekeeper --version, -V                      shows the version

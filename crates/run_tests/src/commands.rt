@@ -14,17 +14,22 @@ const DEVELOPER_ID_BLOB: &[u8] =
 
 // A command, the text of its file, and the blob that it writes, in hexadecimal.
 #[rattlefmt::skip]
-const COMPILED: [(&str, &[u8], &[u8]); 3] = [
+const COMPILED: [(&str, &[u8], &[u8]); 6] = [
     ("compile", DEVELOPER_ID, DEVELOPER_ID_BLOB),
     ("compile", b"always and never and notarized",
         b"fade0c0000000020000000010000000600000006000000010000000000000015"),
     ("compile", b"legacy or ! (always or never) and (notarized or never)",
         b"fade0c00000000340000000100000007000000170000000600000009000000070000000100000000000000070000001500000000"),
+    ("compileset", b"designated => always",
+        b"fade0c0100000024000000010000000300000014fade0c00000000100000000100000001"),
+    ("compileset", b"plugin => never host => always",
+        b"fade0c010000003c00000002000000010000001c000000050000002cfade0c00000000100000000100000001fade0c00000000100000000100000000"),
+    ("compileset", b"", b"fade0c010000000c00000000"),
 ];
 
 // A command, the text of its file, and the line that refuses it.
 #[rattlefmt::skip]
-const REFUSED: [(&str, &[u8], &[u8]); 7] = [
+const REFUSED: [(&str, &[u8], &[u8]); 9] = [
     ("compile", b"identifier and", b"refused text 6 Syntax token=1\n"),
     ("compile", b"always or", b"refused text 6 Syntax token=2\n"),
     ("compile", b"", b"refused text 6 Syntax token=0\n"),
@@ -32,6 +37,8 @@ const REFUSED: [(&str, &[u8], &[u8]); 7] = [
     ("compile", b"\"abc", b"refused text 2 OpenString at=0\n"),
     ("compile", b"certificate leaf[field.1]", b"refused text 9 BadKey token=3\n"),
     ("compile", b"designated => always", b"refused text 6 Syntax token=0\n"),
+    ("compileset", b"always", b"refused text 6 Syntax token=0\n"),
+    ("compileset", b"host => always host => never", b"refused text 10 KindTwice token=3\n"),
 ];
 
 // A blob in hexadecimal, the end of its run, and the text that is written of it.

@@ -60,9 +60,11 @@ fn is_ended_at(
 
 // A command, a length of its file, and how it ends: at the limit and one byte past it.
 #[rattlefmt::skip]
-const LENGTHS: [(&str, usize, Status, &[u8]); 4] = [
+const LENGTHS: [(&str, usize, Status, &[u8]); 6] = [
     ("compile", 65_536, Status::Refused, b"refused text 6 Syntax token=0\n"),
     ("compile", 65_537, Status::FileTooLong, b"fault FileTooLong name=r\n"),
+    ("compileset", 65_536, Status::Fine, b"\xfa\xde\x0c\x01\0\0\0\x0c\0\0\0\0"),
+    ("compileset", 65_537, Status::FileTooLong, b"fault FileTooLong name=r\n"),
     ("dump", 1_048_576, Status::Refused, b"refused ops 1 Blob 2 BadMagic\n"),
     ("dump", 1_048_577, Status::FileTooLong, b"fault FileTooLong name=r\n"),
 ];

@@ -8,10 +8,16 @@ mod commands;
 #[cfg(test)]
 mod devices;
 #[cfg(test)]
+mod edits;
+#[cfg(test)]
 mod failures;
 #[cfg(test)]
 mod files;
 #[cfg(test)]
 mod limits;
 #[cfg(test)]
+mod misfits;
+#[cfg(test)]
 mod sessions;
+#[cfg(test)]
+mod transcripts;

@@ -20,13 +20,13 @@ const SESSIONS: [(&str, &[u8], &[u8]); 8] = [
         b"ok edit=1 rules=1\nok edit=2 rules=1\nrejected at=0 rule=1 latent=none label=- override=none source=rules cache=off\n"),
     ("an end",
         b"status\nadd a execute allow 0 100 - - cdhash H\"1111111111111111111111111111111111111111\"\ntick 100\ntick 7\nassess execute 1111111111111111111111111111111111111111 com.example.app 0\n",
-        b"refused line 8 NotBuilt\nok edit=1 rules=1\nnow=100\nnow=100\nrejected at=100 rule=none latent=none label=no%20matching%20rule override=none source=rules cache=off\n"),
+        b"status assessments=enabled rules=0 receipts=0 objects=0 now=0\nok edit=1 rules=1\nnow=100\nnow=100\nrejected at=100 rule=none latent=none label=no%20matching%20rule override=none source=rules cache=off\n"),
     ("a key again",
         b"add k1 execute allow 0 never - - always\nadd k1 execute allow 0 never - - always\nadd k1 execute deny 0 never - - always\n",
         b"ok edit=1 rules=1\nrepeated edit=1 rules=1\nrefused edit 12 KeyReused edit=1 rules=1\n"),
     ("no last LF", b"tick 5\ntick 6", b"now=5\nnow=6\n"),
-    ("CR and zero", b"tick 5\r\ntick\x005\n", b"refused line 8 NotBuilt\nrefused line 8 NotBuilt\n"),
-    ("empty words", b"\ntick  5\n", b"refused line 8 NotBuilt\nrefused line 8 NotBuilt\n"),
+    ("CR and zero", b"tick 5\r\ntick\x005\n", b"refused line 4 BadMoment\nrefused line 1 BadLine column=1\n"),
+    ("empty words", b"\ntick  5\n", b"refused line 1 BadLine column=1\nrefused line 4 BadMoment\n"),
 ];
 
 const USAGE: &[u8] = b"usage: gatekeeper [--facts NAME] STORE COMMAND [WORDS]\n";

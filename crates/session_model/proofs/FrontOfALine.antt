@@ -2,8 +2,8 @@
 use Rattle.std.proofs.Common.{◌≡◌, ℕ, suc, ◌≤◌, List, length, take, Bool, true, false, nat_le, if◌then◌else◌, Err, arith, refl, sym, ◌∙◌, ap}
 use Rattle.std.proofs.lemmas.List.{take_all, length-take}
 use Rattle.std.proofs.lemmas.Bool.Decides.{nat_tests}
-use Rattle.session_model.specs.LineFaults.{bad_line}
-use Rattle.session_model.specs.Left.{all_of}
+use Rattle.line_model.specs.LineFaults.{bad_line}
+use Rattle.line_model.specs.Left.{all_of}
 use Rattle.session_model.specs.Lines.{lined_at, lined}
 
 -- a longer line is too long

@@ -1,6 +1,6 @@
 -- Worked sessions, computed by the definitions alone: lines, and the replies that were worked out by hand. What the
 -- texts of requirements read as is handed in: `req_grammar` has the rows of texts.
-use Rattle.std.specs.Prelude.{◌≡◌, ℕ, ℤ, pos, neg_ℤ, List, [], ◌∷◌, ◌++◌, replicate, refl, codes, Option, Some, None, Err}
+use Rattle.std.specs.Prelude.{◌≡◌, ℕ, List, [], ◌∷◌, ◌++◌, replicate, refl, codes, Ok, Err}
 use Rattle.std.specs.Fmt.{digits}
 use Rattle.hex.specs.Hex.{decode_pairs}
 use Rattle.req_tree.specs.Facts.{no_facts}
@@ -9,12 +9,13 @@ use Rattle.req_grammar.specs.Readings.{IsRequirementText}
 use Rattle.policy_model.specs.Texts.{places, add_front, content_text}
 use Rattle.policy_model.specs.History.{fresh}
 use Rattle.policy_model.specs.ReplyTexts.{verdict_text}
-use Rattle.session_model.specs.LineFaults.{LineFault, bad_line, bad_moment, bad_label, not_built}
-use Rattle.session_model.specs.WordTexts.{bytes_of_word}
-use Rattle.session_model.specs.Words.{priority_word}
+use Rattle.line_model.specs.LineFaults.{LineFault, bad_line, bad_moment, bad_label, bad_key, not_built}
 use Rattle.session_model.specs.Lines.{lined}
 use Rattle.session_model.specs.Session as session
 use Rattle.session_model.specs.Session.{begun}
+use Rattle.session_model.specs.StatusText.{status_line}
+use Rattle.req_tokens.specs.declared.fault.TextFault.TheVariants.{Syntax}
+use Rattle.req_parser.specs.Failures.{FailsText}
 
 -- a session of a fresh desk has these replies to these lines
 abbrev Answers : List (List ℕ) → List (List ℕ) → Type 0
@@ -27,51 +28,125 @@ ones = replicate 40 49
 abbrev assess_line : List ℕ
 assess_line = codes "assess execute " ++ ones ++ codes " com.example.app 0"
 
+-- one rule
 one_rule : IsRequirementText (codes "always") always → Answers
     (codes "tick 100" ∷ codes "add k1 execute allow 0 never - - always" ∷ assess_line ∷ [])
     (codes "now=100" ∷ codes "ok edit=1 rules=1"
     ∷ codes "accepted at=100 rule=1 latent=none label=- override=none source=rules cache=off" ∷ [])
-unfolding digits decode_pairs places add_front content_text verdict_text
-one_rule says = (_, (_, _, refl, (refl, refl), (_, _, (Some always, says, refl), (refl, refl), (_, _, refl, (refl, refl), refl))))
+unfolding digits decode_pairs places add_front content_text verdict_text status_line
+one_rule says = (_, (_, _, refl, (refl, refl), (_, _, (_, (Ok always, says, refl), refl), (refl, refl), (_, _, refl, (refl, refl), refl))))
 
 -- of two rules of one priority the older decides
 tie : IsRequirementText (codes "always") always → Answers
     (codes "add a execute deny 5 never - - always" ∷ codes "add b execute allow 5 never - - always" ∷ assess_line ∷ [])
     (codes "ok edit=1 rules=1" ∷ codes "ok edit=2 rules=1"
     ∷ codes "rejected at=0 rule=1 latent=none label=- override=none source=rules cache=off" ∷ [])
-unfolding digits decode_pairs places add_front content_text verdict_text
-tie says = (_, (_, _, (Some always, says, refl), (refl, refl), (_, _, (Some always, says, refl), (refl, refl), (_, _, refl, (refl, refl), refl))))
+unfolding digits decode_pairs places add_front content_text verdict_text status_line
+tie says = (_, (_, _, (_, (Ok always, says, refl), refl), (refl, refl), (_, _, (_, (Ok always, says, refl), refl), (refl, refl), (_, _, refl, (refl, refl), refl))))
 
--- a line of no form, a moment that doesn't step back, and a rule at whose end nothing governs
+-- a moment that doesn't step back, and a rule at whose end nothing governs
 expired : IsRequirementText (codes "cdhash H" ++ 34 ∷ ones ++ 34 ∷ []) (cd_hash (replicate 20 17)) → Answers
-    (codes "status" ∷ (codes "add a execute allow 0 100 - - cdhash H" ++ 34 ∷ ones ++ 34 ∷ []) ∷ codes "tick 100" ∷ codes "tick 7" ∷ assess_line ∷ [])
-    (codes "refused line 8 NotBuilt" ∷ codes "ok edit=1 rules=1" ∷ codes "now=100" ∷ codes "now=100"
-    ∷ codes "rejected at=100 rule=none latent=none label=no%20matching%20rule override=none source=rules cache=off" ∷ [])
-unfolding digits decode_pairs places add_front content_text verdict_text
-expired says = (_, (_, _, refl, (refl, refl), (_, _, (Some (cd_hash (replicate 20 17)), says, refl), (refl, refl), (_, _, refl, (refl, refl), (_, _, refl, (refl, refl), (_, _, refl, (refl, refl), refl))))))
+    (codes "status" ∷ (codes "add a execute allow 0 100 - - cdhash H" ++ 34 ∷ ones ++ 34 ∷ []) ∷ codes "tick 100"
+    ∷ codes "tick 7" ∷ assess_line ∷ codes "status" ∷ [])
+    (codes "status assessments=enabled rules=0 receipts=0 objects=0 now=0" ∷ codes "ok edit=1 rules=1"
+    ∷ codes "now=100" ∷ codes "now=100"
+    ∷ codes "rejected at=100 rule=none latent=none label=no%20matching%20rule override=none source=rules cache=off"
+    ∷ codes "status assessments=enabled rules=1 receipts=1 objects=0 now=100" ∷ [])
+unfolding digits decode_pairs places add_front content_text verdict_text status_line
+expired says = (_, (_, _, refl, (refl, refl), (_, _, (_, (Ok (cd_hash (replicate 20 17)), says, refl), refl), (refl, refl), (_, _, refl, (refl, refl), (_, _, refl, (refl, refl), (_, _, refl, (refl, refl), (_, _, refl, (refl, refl), refl)))))))
 
--- a key acts once
+-- a key acts once, and an edit needs a rule
 repeats : IsRequirementText (codes "always") always → Answers
-    (codes "add k1 execute allow 0 never - - always" ∷ codes "add k1 execute allow 0 never - - always" ∷ codes "add k1 execute deny 0 never - - always" ∷ [])
-    (codes "ok edit=1 rules=1" ∷ codes "repeated edit=1 rules=1" ∷ codes "refused edit 12 KeyReused edit=1 rules=1" ∷ [])
-unfolding digits decode_pairs places add_front content_text verdict_text
-repeats says = (_, (_, _, (Some always, says, refl), (refl, refl), (_, _, (Some always, says, refl), (refl, refl), (_, _, (Some always, says, refl), (refl, refl), refl))))
+    (codes "remove k id 1 any" ∷ codes "add k execute allow 0 never - - always"
+    ∷ codes "add k execute allow 0 never - - always" ∷ codes "add k execute deny 0 never - - always" ∷ codes "status"
+    ∷ [])
+    (codes "refused edit 11 NoRule" ∷ codes "ok edit=1 rules=1" ∷ codes "repeated edit=1 rules=1"
+    ∷ codes "refused edit 12 KeyReused edit=1 rules=1"
+    ∷ codes "status assessments=enabled rules=1 receipts=1 objects=0 now=0" ∷ [])
+unfolding digits decode_pairs places add_front content_text verdict_text status_line
+repeats says = (_, (_, _, (_, refl, refl), (refl, refl), (_, _, (_, (Ok always, says, refl), refl), (refl, refl), (_, _, (_, (Ok always, says, refl), refl), (refl, refl), (_, _, (_, (Ok always, says, refl), refl), (refl, refl), (_, _, refl, (refl, refl), refl))))))
+
+-- the same content in two spellings is one
+spelt_twice : IsRequirementText (codes "always") always → Answers
+    (codes "add k execute allow -0.50 0100 %54ool default always"
+    ∷ codes "add k execute allow -00.5 100 Tool default always" ∷ codes "expire e id 000001 any 0007"
+    ∷ codes "expire e id 1 any 7" ∷ codes "expire e id 1 any 8" ∷ [])
+    (codes "ok edit=1 rules=1" ∷ codes "repeated edit=1 rules=1" ∷ codes "ok edit=2 rules=1"
+    ∷ codes "repeated edit=2 rules=1" ∷ codes "refused edit 12 KeyReused edit=2 rules=1" ∷ [])
+unfolding digits decode_pairs places add_front content_text verdict_text status_line
+spelt_twice says = (_, (_, _, (_, (Ok always, says, refl), refl), (refl, refl), (_, _, (_, (Ok always, says, refl), refl), (refl, refl), (_, _, (_, refl, refl), (refl, refl), (_, _, (_, refl, refl), (refl, refl), (_, _, (_, refl, refl), (refl, refl), refl))))))
 
 -- a label with a space, both flags, and a fraction in the priority, which decides
 labelled : IsRequirementText (codes "always") always → Answers
-    (codes "add a execute deny 0.25 never Old%20name - always" ∷ codes "add b execute allow 0.3 never New%20name default+inhibit always" ∷ assess_line ∷ [])
+    (codes "add a execute deny 0.25 never Old%20name - always"
+    ∷ codes "add b execute allow 0.3 never New%20name default+inhibit always" ∷ assess_line ∷ [])
     (codes "ok edit=1 rules=1" ∷ codes "ok edit=2 rules=1"
     ∷ codes "accepted at=0 rule=2 latent=none label=New%20name override=none source=rules cache=off" ∷ [])
-unfolding digits decode_pairs places add_front content_text verdict_text
-labelled says = (_, (_, _, (Some always, says, refl), (refl, refl), (_, _, (Some always, says, refl), (refl, refl), (_, _, refl, (refl, refl), refl))))
+unfolding digits decode_pairs places add_front content_text verdict_text status_line
+labelled says = (_, (_, _, (_, (Ok always, says, refl), refl), (refl, refl), (_, _, (_, (Ok always, says, refl), refl), (refl, refl), (_, _, refl, (refl, refl), refl))))
 
 -- unsigned code meets no rule
 unsigned : IsRequirementText (codes "always") always → Answers
     (codes "add a execute allow 0 never - - always" ∷ codes "assess execute unsigned" ∷ [])
     (codes "ok edit=1 rules=1"
-    ∷ codes "rejected at=0 rule=none latent=none label=no%20usable%20signature override=none source=unsigned cache=none" ∷ [])
-unfolding digits decode_pairs places add_front content_text verdict_text
-unsigned says = (_, (_, _, (Some always, says, refl), (refl, refl), (_, _, refl, (refl, refl), refl)))
+    ∷ codes "rejected at=0 rule=none latent=none label=no%20usable%20signature override=none source=unsigned cache=none"
+    ∷ [])
+unfolding digits decode_pairs places add_front content_text verdict_text status_line
+unsigned says = (_, (_, _, (_, (Ok always, says, refl), refl), (refl, refl), (_, _, refl, (refl, refl), refl)))
+
+-- a denial is overridden while assessments are switched off, and the rule is named
+switched : IsRequirementText (codes "always") always → Answers
+    (codes "add d execute deny 0 never Blocked - always" ∷ codes "switch s1 off" ∷ assess_line ∷ codes "status"
+    ∷ codes "switch s2 on" ∷ assess_line ∷ [])
+    (codes "ok edit=1 rules=1" ∷ codes "ok edit=2 rules=0"
+    ∷ codes "accepted at=0 rule=1 latent=none label=Blocked override=security%20disabled source=rules cache=off"
+    ∷ codes "status assessments=disabled rules=1 receipts=2 objects=0 now=0" ∷ codes "ok edit=3 rules=0"
+    ∷ codes "rejected at=0 rule=1 latent=none label=Blocked override=none source=rules cache=off" ∷ [])
+unfolding digits decode_pairs places add_front content_text verdict_text status_line
+switched says = (_, (_, _, (_, (Ok always, says, refl), refl), (refl, refl), (_, _, (_, refl, refl), (refl, refl), (_, _, refl, (refl, refl), (_, _, refl, (refl, refl), (_, _, (_, refl, refl), (refl, refl), (_, _, refl, (refl, refl), refl)))))))
+
+-- a disabled rule is latent, by its number and by its label
+disabled : IsRequirementText (codes "always") always → Answers
+    (codes "add a execute allow 0 never Dev%20ID - always" ∷ codes "disable b id 1 execute" ∷ assess_line
+    ∷ codes "enable c label Dev%20ID any" ∷ assess_line ∷ [])
+    (codes "ok edit=1 rules=1" ∷ codes "ok edit=2 rules=1"
+    ∷ codes "rejected at=0 rule=none latent=1 label=Dev%20ID override=none source=rules cache=off"
+    ∷ codes "ok edit=3 rules=1"
+    ∷ codes "accepted at=0 rule=1 latent=none label=Dev%20ID override=none source=rules cache=off" ∷ [])
+unfolding digits decode_pairs places add_front content_text verdict_text status_line
+disabled says = (_, (_, _, (_, (Ok always, says, refl), refl), (refl, refl), (_, _, (_, refl, refl), (refl, refl), (_, _, refl, (refl, refl), (_, _, (_, refl, refl), (refl, refl), (_, _, refl, (refl, refl), refl))))))
+
+-- a count goes up by each disabling and to 0 at once
+counted : IsRequirementText (codes "always") always → Answers
+    (codes "add a execute allow 0 never - - always" ∷ codes "disable b id 1 any" ∷ codes "disable c id 1 any"
+    ∷ codes "enable d id 1 any" ∷ assess_line ∷ codes "disable e id 1 install" ∷ [])
+    (codes "ok edit=1 rules=1" ∷ codes "ok edit=2 rules=1" ∷ codes "ok edit=3 rules=1" ∷ codes "ok edit=4 rules=1"
+    ∷ codes "accepted at=0 rule=1 latent=none label=- override=none source=rules cache=off"
+    ∷ codes "refused edit 11 NoRule" ∷ [])
+unfolding digits decode_pairs places add_front content_text verdict_text status_line
+counted says = (_, (_, _, (_, (Ok always, says, refl), refl), (refl, refl), (_, _, (_, refl, refl), (refl, refl), (_, _, (_, refl, refl), (refl, refl), (_, _, (_, refl, refl), (refl, refl), (_, _, refl, (refl, refl), (_, _, (_, refl, refl), (refl, refl), refl)))))))
+
+-- an edit touches rules of three kinds at once, or of one
+of_three_kinds : IsRequirementText (codes "always") always → Answers
+    (codes "add a execute allow 0 never T - always" ∷ codes "add b install allow 0 never T - always"
+    ∷ codes "add c open allow 0 never T - always" ∷ codes "disable d label T any" ∷ codes "enable e label T open"
+    ∷ codes "remove f label T execute" ∷ codes "remove g label T execute" ∷ codes "expire h label T any 9"
+    ∷ codes "status" ∷ [])
+    (codes "ok edit=1 rules=1" ∷ codes "ok edit=2 rules=1" ∷ codes "ok edit=3 rules=1" ∷ codes "ok edit=4 rules=3"
+    ∷ codes "ok edit=5 rules=1" ∷ codes "ok edit=6 rules=1" ∷ codes "refused edit 11 NoRule"
+    ∷ codes "ok edit=7 rules=2" ∷ codes "status assessments=enabled rules=2 receipts=7 objects=0 now=0" ∷ [])
+unfolding digits decode_pairs places add_front content_text verdict_text status_line
+of_three_kinds says = (_, (_, _, (_, (Ok always, says, refl), refl), (refl, refl), (_, _, (_, (Ok always, says, refl), refl), (refl, refl), (_, _, (_, (Ok always, says, refl), refl), (refl, refl), (_, _, (_, refl, refl), (refl, refl), (_, _, (_, refl, refl), (refl, refl), (_, _, (_, refl, refl), (refl, refl), (_, _, (_, refl, refl), (refl, refl), (_, _, (_, refl, refl), (refl, refl), (_, _, refl, (refl, refl), refl))))))))))
+
+-- a line that is refused changes nothing
+bad_lines : Answers
+    (codes "assess execute" ∷ codes "tick  5" ∷ codes "begin 1 execute unsigned"
+    ∷ codes "assess execute unsigned nocache" ∷ codes "switch k maybe" ∷ codes "status" ∷ [])
+    (codes "refused line 1 BadLine column=15" ∷ codes "refused line 4 BadMoment" ∷ codes "refused line 8 NotBuilt"
+    ∷ codes "refused line 8 NotBuilt" ∷ codes "refused line 1 BadLine column=10"
+    ∷ codes "status assessments=enabled rules=0 receipts=0 objects=0 now=0" ∷ [])
+unfolding digits decode_pairs places add_front content_text verdict_text status_line
+bad_lines = (_, (_, _, refl, (refl, refl), (_, _, refl, (refl, refl), (_, _, refl, (refl, refl), (_, _, refl, (refl, refl), (_, _, refl, (refl, refl), (_, _, refl, (refl, refl), refl)))))))
 
 no_lines : Answers [] []
 no_lines = (_, refl)
@@ -109,66 +184,34 @@ half_an_escape = refl
 no_flags : Refused (codes "add k execute allow 0 never - inhibit+default always") (bad_line 31)
 no_flags = refl
 
-an_empty_line : Refused [] not_built
+an_empty_line : Refused [] (bad_line 1)
 an_empty_line = refl
 
--- words and what they stand for
+no_form : Refused (codes "list") (bad_line 1)
+no_form = refl
 
-abbrev Priority : List ℕ → Option ℤ → Type 0
-Priority word value = priority_word word ≡ value
+a_later_form : Refused (codes "finish 1") not_built
+a_later_form = refl
 
-a_fraction : Priority (codes "20.5") (Some (pos 20500000))
-a_fraction = refl
+a_word_behind_nocache : Refused (codes "assess execute unsigned nocache 0") (bad_line 33)
+a_word_behind_nocache = refl
 
-a_millionth_below : Priority (codes "-0.000001") (Some (neg_ℤ (pos 1)))
-a_millionth_below = refl
+no_selector : Refused (codes "remove k label") (bad_line 15)
+no_selector = refl
 
-the_greatest : Priority (codes "1000000.0") (Some (pos 1000000000000))
-the_greatest = refl
+no_rule_of_that_number : Refused (codes "enable k id 0 any") (bad_line 13)
+no_rule_of_that_number = refl
 
-above_the_greatest : Priority (codes "1000000.000001") None
-above_the_greatest = refl
+no_label : Refused (codes "disable k label - any") bad_label
+no_label = refl
 
-no_digits_behind_the_dot : Priority (codes "5.") None
-no_digits_behind_the_dot = refl
+no_expiry : Refused (codes "expire k id 1 any") (bad_line 18)
+no_expiry = refl
 
-no_digits_before_the_dot : Priority (codes ".5") None
-no_digits_before_the_dot = refl
+no_key : Refused (codes "switch k/1 on") bad_key
+no_key = refl
 
-two_dots : Priority (codes "1.2.3") None
-two_dots = refl
-
-seven_digits_behind_the_dot : Priority (codes "1.0000000") None
-seven_digits_behind_the_dot = refl
-
-zeros_in_front : Priority (codes "0000007.10") (Some (pos 7100000))
-zeros_in_front = refl
-
-two_signs : Priority (codes "--1") None
-two_signs = refl
-
-no_bytes : bytes_of_word (codes "-") ≡ Some []
-no_bytes = refl
-
-one_dash : bytes_of_word (codes "%2D") ≡ Some (codes "-")
-unfolding decode_pairs
-one_dash = refl
-
-two_dashes : bytes_of_word (codes "--") ≡ Some (codes "--")
-two_dashes = refl
-
-lower_and_upper : bytes_of_word (codes "%c3%A9a") ≡ Some (0xc3 ∷ 0xa9 ∷ 97 ∷ [])
-unfolding decode_pairs
-lower_and_upper = refl
-
-a_high_byte : bytes_of_word (0x80 ∷ 0xff ∷ []) ≡ Some (0x80 ∷ 0xff ∷ [])
-a_high_byte = refl
-
-a_deleted_byte : bytes_of_word (0x7f ∷ []) ≡ None
-a_deleted_byte = refl
-
-a_bare_sign : bytes_of_word (codes "a%") ≡ None
-a_bare_sign = refl
-
-no_word : bytes_of_word [] ≡ None
-no_word = refl
+-- the one fault of a requirement: what the text fails by is handed in
+a_bad_requirement : FailsText (codes "identifier and") (Syntax 1) → Answers (codes "add k execute allow 0 never - - identifier and" ∷ []) (codes "refused line 2 BadRequirement 6 Syntax token=1" ∷ [])
+unfolding digits decode_pairs
+a_bad_requirement fails = (_, (_, _, (_, (Err (Syntax 1), (fails, λ is. cc), refl), refl), (refl, refl), refl))

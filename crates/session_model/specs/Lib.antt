@@ -1,8 +1,4 @@
-pub mod WordTexts
-pub mod Words
-pub mod LineFaults
-pub mod Left
-pub mod Forms
+pub mod StatusText
 pub mod Lines
 pub mod Session
 pub mod Laws

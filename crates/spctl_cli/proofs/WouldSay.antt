@@ -11,12 +11,13 @@ use Rattle.run_status.specs.declared.status.Status.TheVariants.{Fine, Denied, Us
 use Rattle.language_commands.specs.Taken.{TakenOrRefused}
 use Rattle.run_status.specs.Files.{SaysWithoutFile, SaysOfFile, SaysOnFile}
 use Rattle.language_commands.specs.Compiling.{Compiles}
+use Rattle.language_commands.specs.CompilingSets.{CompilesSet}
 use Rattle.language_commands.specs.Dumping.{Dumps, DumpsBy, begins_as_set}
 use Rattle.assess_command.specs.declared.line.Assessed.{Assessed}
 use Rattle.assess_command.specs.declared.line.Assessed.TheVariants as assessed
 use Rattle.file_assessment.specs.declared.limits.TheConstants.{MOST_SIGNATURE_BYTES, MOST_CODE_BYTES}
 use Rattle.file_assessment.specs.Assessing.{SaysByClock, SaysWithCode, status_of}
-use Rattle.spctl_cli.specs.Commands.{FileCommand, compile, dump, assess}
+use Rattle.spctl_cli.specs.Commands.{FileCommand, compile, compile_set, dump, assess}
 use Rattle.spctl_cli.specs.CommandSays.{FilesSay}
 use Rattle.spctl_cli.specs.Causes.{IsUncut, IsWorked, HasFile, HasFiles}
 use Rattle.spctl_cli.specs.Conclusions.{Concludes}
@@ -103,6 +104,7 @@ clock_works o h moments kind signature code status said it = subst IsWorked (sym
 
 worked : (o : Opening) (s : State) (files : List File) (moments : Option (List ℕ)) (command : FileCommand) (status : Status) (said : List ℕ) → HasFiles files command → FilesSay o s (Some files) moments command status said → IsWorked status
 worked o s files moments (compile name) status said has says = works_there Compiles files name MOST_TEXT_BYTES status said (λ bytes h. taken_or_refused _ _ status said h) has says
+worked o s files moments (compile_set name) status said has says = works_there CompilesSet files name MOST_TEXT_BYTES status said (λ bytes h. taken_or_refused _ _ status said h) has says
 worked o s files moments (dump name) status said has says = works_there Dumps files name MOST_BYTES status said (λ bytes h. dump_works (begins_as_set bytes) bytes said status h) has says
 worked o s files moments (assess kind name None) status said has says =
     works_there (SaysWithCode o s.history (Some files) moments kind None) files name MOST_SIGNATURE_BYTES status said (λ signature h. clock_works o s.history moments kind signature None status said h) has says
@@ -114,10 +116,11 @@ abbrev OneStatus : (List ℕ → Status → List ℕ → Type 0) → Type 0
 OneStatus Work = (bytes said other : List ℕ) (first second : Status) → Work bytes first said → Work bytes second other → first ≡ second
 
 -- what is said of files has statuses that belong together
-module _ (compiles : OneStatus Compiles) (dumps : OneStatus Dumps) (Same : Status → Status → Type 0) (same : (first second : Status) → first ≡ second → Same first second) (o : Opening) (s : State) (files : List File) (moments : Option (List ℕ)) where
+module _ (compiles : OneStatus Compiles) (sets : OneStatus CompilesSet) (dumps : OneStatus Dumps) (Same : Status → Status → Type 0) (same : (first second : Status) → first ≡ second → Same first second) (o : Opening) (s : State) (files : List File) (moments : Option (List ℕ)) where
   one_said : ((kind : Kind) (signature : List ℕ) (code : Option (List ℕ)) (said other : List ℕ) (first second : Status) → SaysByClock o s.history moments kind signature code first said → SaysByClock o s.history moments kind signature code second other → Same first second)
       → (command : FileCommand) (first second : Status) (said other : List ℕ) → FilesSay o s (Some files) moments command first said → FilesSay o s (Some files) moments command second other → Same first second
   one_said clocks (compile name) first second said other a b = one_on_file Same same Compiles files name MOST_TEXT_BYTES (λ bytes x y p q h k. same p q (compiles bytes x y p q h k)) first second said other a b
+  one_said clocks (compile_set name) first second said other a b = one_on_file Same same CompilesSet files name MOST_TEXT_BYTES (λ bytes x y p q h k. same p q (sets bytes x y p q h k)) first second said other a b
   one_said clocks (dump name) first second said other a b = one_on_file Same same Dumps files name MOST_BYTES (λ bytes x y p q h k. same p q (dumps bytes x y p q h k)) first second said other a b
   one_said clocks (assess kind name None) first second said other a b =
       one_on_file Same same (SaysWithCode o s.history (Some files) moments kind None) files name MOST_SIGNATURE_BYTES (λ signature x y p q h k. clocks kind signature None x y p q h k) first second said other a b
@@ -177,20 +180,20 @@ timeless_by_clock ever o h moments kind signature code said other first second a
     let refused = a.says.end_is ∙ refused_alone a.says.how (subst IsTimeless a.says.end_is timeless) in
     refused ∙ sym (ever o h moments moments kind signature code said other second (subst (λ s. SaysByClock o h moments kind signature code s said) refused a) b)
 
-module _ (compiles : OneStatus Compiles) (dumps : OneStatus Dumps) (told : OneTold) (ever : RefusedEver) (o : Opening) (s : State) (files : List File) (command : FileCommand) (written sent : Option (List ℕ)) (ended : Status) where
+module _ (compiles : OneStatus Compiles) (sets : OneStatus CompilesSet) (dumps : OneStatus Dumps) (told : OneTold) (ever : RefusedEver) (o : Opening) (s : State) (files : List File) (command : FileCommand) (written sent : Option (List ℕ)) (ended : Status) where
   -- a file is missing or too long, or the work is refused, exactly where something would be said with that status
   pub timeless_exactly : (moments : Option (List ℕ)) (status : Status) → IsTimeless status → IsUncut ended → Concludes (FilesSay o s (Some files) moments command) written sent ended
       → ((ended ≡ status) ↔ ((text : List ℕ) × FilesSay o s (Some files) moments command status text))
   timeless_exactly moments status timeless uncut e =
       exactly (FilesSay o s (Some files) moments command) written sent ended status
-      (λ said other a b. one_said compiles dumps TimelessSame (λ p q is _. is) o s files moments (λ kind signature code x y p q h k. timeless_by_clock ever o s.history moments kind signature code x y p q h k) command status ended said other a b timeless) uncut e
+      (λ said other a b. one_said compiles sets dumps TimelessSame (λ p q is _. is) o s files moments (λ kind signature code x y p q h k. timeless_by_clock ever o s.history moments kind signature code x y p q h k) command status ended said other a b timeless) uncut e
 
   -- and so it is with every status, where the clock tells its moments
   pub told_exactly : (moments : List ℕ) (status : Status) → IsUncut ended → Concludes (FilesSay o s (Some files) (Some moments) command) written sent ended
       → ((ended ≡ status) ↔ ((text : List ℕ) × FilesSay o s (Some files) (Some moments) command status text))
   told_exactly moments status uncut e =
       exactly (FilesSay o s (Some files) (Some moments) command) written sent ended status
-      (λ said other a b. one_said compiles dumps (λ p q. p ≡ q) (λ p q is. is) o s files (Some moments) (λ kind signature code x y p q h k. told o s.history moments kind signature code x y p q h k) command status ended said other a b) uncut e
+      (λ said other a b. one_said compiles sets dumps (λ p q. p ≡ q) (λ p q is. is) o s files (Some moments) (λ kind signature code x y p q h k. told o s.history moments kind signature code x y p q h k) command status ended said other a b) uncut e
 
 -- a command whose files are there does its work, unless a device fails or memory runs out
 pub work_is_done : (o : Opening) (s : State) (files : List File) (moments : Option (List ℕ)) (command : FileCommand) (written sent : Option (List ℕ)) (ended : Status) → HasFiles files command → ended ≢ WriteFault → ended ≢ ShelfFault → ended ≢ ClockFault

@@ -9,7 +9,7 @@ use Rattle.file_assessment.specs.declared.limits.TheConstants.{MOST_SIGNATURE_BY
 use Rattle.run_status.specs.declared.status.Status.{Status}
 use Rattle.run_status.specs.declared.status.Status.TheVariants.{Fine, Denied, Usage, ReadFault, WriteFault, ShelfFault, ClockFault, Refused, SessionTooLong, OutOfMemory}
 use Rattle.run_status.specs.Files.{IsFile}
-use Rattle.spctl_cli.specs.Commands.{FileCommand, compile, dump, assess, Command, session, on_files}
+use Rattle.spctl_cli.specs.Commands.{FileCommand, compile, compile_set, dump, assess, Command, session, on_files}
 use Rattle.spctl_cli.specs.CommandSays.{FilesSay}
 
 -- neither the sink, the shelf nor the clock failed, and memory didn't run out
@@ -47,6 +47,7 @@ HasFile files name limit = (bytes : List ℕ) × IsFile (Some files) name limit 
 -- all files of the command are there, and within its limits
 abbrev pub HasFiles : List File → FileCommand → Type 0
 HasFiles files (compile name) = HasFile files name MOST_TEXT_BYTES
+HasFiles files (compile_set name) = HasFile files name MOST_TEXT_BYTES
 HasFiles files (dump name) = HasFile files name MOST_BYTES
 HasFiles files (assess kind name None) = HasFile files name MOST_SIGNATURE_BYTES
 HasFiles files (assess kind name (Some code)) = HasFile files name MOST_SIGNATURE_BYTES × HasFile files code MOST_CODE_BYTES

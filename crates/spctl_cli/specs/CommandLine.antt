@@ -4,11 +4,11 @@ use denote.Bor.{Bor}
 use Rattle.authority_table.specs.Kind.{kind_of}
 use Rattle.file_assessment.specs.Assessing.{name_of}
 use Rattle.spctl_cli.specs.Commands as model
-use Rattle.spctl_cli.specs.Commands.{session, on_files, compile, dump, assess}
+use Rattle.spctl_cli.specs.Commands.{session, on_files, compile, compile_set, dump, assess}
 use Rattle.spctl_cli.specs.declared.command.Command as code
 use Rattle.spctl_cli.specs.declared.command.Command.TheVariants.{Session, OnFiles}
 use Rattle.spctl_cli.specs.declared.command.FileCommand as code_files
-use Rattle.spctl_cli.specs.declared.command.FileCommand.TheVariants.{Compile, Dump, Assess}
+use Rattle.spctl_cli.specs.declared.command.FileCommand.TheVariants.{Compile, CompileSet, Dump, Assess}
 
 -- the words as bytes
 abbrev pub texts : List (Bor (List ℕ)) → List (List ℕ)
@@ -17,6 +17,7 @@ texts words = map (λ word. word.now) words
 -- the command on files of the definitions
 abbrev pub file_command_view : code_files.FileCommand → model.FileCommand
 file_command_view (Compile name) = compile name.now
+file_command_view (CompileSet name) = compile_set name.now
 file_command_view (Dump name) = dump name.now
 file_command_view (Assess kind name code) = assess (kind_of kind) name.now (name_of code)
 

@@ -1,12 +1,14 @@
 -- The words of the command line, without the program's name. This project's own, after spctl(8).
 use Rattle.std.specs.Prelude.{ℕ, List, [], ◌∷◌, Option, Some, None, option_map, ◌&&◌, if◌then◌else◌, codes, bytes_eq}
 use Rattle.policy_model.specs.Rules.{Kind}
-use Rattle.session_model.specs.Words.{kind_word}
+use Rattle.line_model.specs.Words.{kind_word}
 
 -- what the program is asked to do with files
 pub data FileCommand : Type 0 where
   -- make a blob of the text of a requirement
   compile : (name : List ℕ) → FileCommand
+  -- make a blob of the text of a set of requirements
+  compile_set : (name : List ℕ) → FileCommand
   -- make a text of a blob
   dump : (name : List ℕ) → FileCommand
   -- assess the code of a signature file, and look at a code file where one is named
@@ -27,6 +29,7 @@ on_store store word = if bytes_eq store (codes ":memory:") && bytes_eq word (cod
 abbrev pub on_file : List ℕ → List ℕ → Option Command
 on_file word name =
     if bytes_eq word (codes "compile") then Some (on_files (compile name))
+    else if bytes_eq word (codes "compileset") then Some (on_files (compile_set name))
     else if bytes_eq word (codes "dump") then Some (on_files (dump name))
     else None
 

@@ -25,6 +25,10 @@ pub enum FileCommand<'a> {
     Compile {
         name: &'a str,
     },
+    /// Make a blob of the text of a set of requirements.
+    CompileSet {
+        name: &'a str,
+    },
     /// Make a text of a blob.
     Dump {
         name: &'a str,
@@ -67,6 +71,7 @@ fn on_file<'a>(word: &str, name: &'a str) -> Option<Command<'a>>
 {
     match word {
         "compile" => Some(Command::OnFiles(FileCommand::Compile { name })),
+        "compileset" => Some(Command::OnFiles(FileCommand::CompileSet { name })),
         "dump" => Some(Command::OnFiles(FileCommand::Dump { name })),
         _ => None,
     }

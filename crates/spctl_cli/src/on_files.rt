@@ -17,7 +17,7 @@ use authority_table::Kind;
 use desk_state::Desk;
 use file_assessment::assess;
 use gk_io::{Clock, Shelf};
-use language_commands::{compile, dump_file};
+use language_commands::{compile, compile_set, dump_file};
 use run_status::{Said, Stop};
 use std::alloc::Global;
 
@@ -41,6 +41,7 @@ pub fn said_of_files<H: Shelf, C: Clock>(
 {
     match command {
         FileCommand::Compile { name } => compile(alloc, name, shelf),
+        FileCommand::CompileSet { name } => compile_set(alloc, name, shelf),
         FileCommand::Dump { name } => dump_file(alloc, name, shelf),
         FileCommand::Assess { kind, name, code } => {
             assess_afresh(alloc, kind, name, code, shelf, clock)

@@ -69,28 +69,28 @@ returns-in-Some-OnFiles-clause-too_long_cause g c = λ told a b. (λ is. absurd 
 pub returns-in-Some-OnFiles-clause-missing_cause : goal.returns-in-Some-OnFiles-clause-missing_cause
 returns-in-Some-OnFiles-clause-missing_cause g c = λ files told uncut.
     subst (λ command. (c.on_files.result ≡ FileMissing) ↔ WouldSay (fresh no_facts) begun files (g.C.Clock.moments c.args.clock.now) command FileMissing) (rw c.in-Some-OnFiles.field-0-is at c.in-Some-OnFiles.ensures)
-    (timeless_exactly c.each_work_has_one_status.ensures.compile c.each_work_has_one_status.ensures.dump c.an_assessment_has_one_status.ensures.told c.an_assessment_has_one_status.ensures.refused
+    (timeless_exactly c.each_work_has_one_status.ensures.compile c.each_work_has_one_status.ensures.compile_set c.each_work_has_one_status.ensures.dump c.an_assessment_has_one_status.ensures.told c.an_assessment_has_one_status.ensures.refused
     (fresh no_facts) begun files (file_command_view c.in-Some-OnFiles.command) (g.W.Sink.written c.args.output.now) (g.W.Sink.written c.on_files.new.output) c.on_files.result (g.C.Clock.moments c.args.clock.now) FileMissing tt uncut
     (subst (λ shelf. Concludes (FilesSay (fresh no_facts) begun shelf (g.C.Clock.moments c.args.clock.now) (file_command_view c.in-Some-OnFiles.command)) (g.W.Sink.written c.args.output.now) (g.W.Sink.written c.on_files.new.output) c.on_files.result) told c.on_files.ensures.ends))
 
 pub returns-in-Some-OnFiles-clause-file_too_long_cause : goal.returns-in-Some-OnFiles-clause-file_too_long_cause
 returns-in-Some-OnFiles-clause-file_too_long_cause g c = λ files told uncut.
     subst (λ command. (c.on_files.result ≡ FileTooLong) ↔ WouldSay (fresh no_facts) begun files (g.C.Clock.moments c.args.clock.now) command FileTooLong) (rw c.in-Some-OnFiles.field-0-is at c.in-Some-OnFiles.ensures)
-    (timeless_exactly c.each_work_has_one_status.ensures.compile c.each_work_has_one_status.ensures.dump c.an_assessment_has_one_status.ensures.told c.an_assessment_has_one_status.ensures.refused
+    (timeless_exactly c.each_work_has_one_status.ensures.compile c.each_work_has_one_status.ensures.compile_set c.each_work_has_one_status.ensures.dump c.an_assessment_has_one_status.ensures.told c.an_assessment_has_one_status.ensures.refused
     (fresh no_facts) begun files (file_command_view c.in-Some-OnFiles.command) (g.W.Sink.written c.args.output.now) (g.W.Sink.written c.on_files.new.output) c.on_files.result (g.C.Clock.moments c.args.clock.now) FileTooLong tt uncut
     (subst (λ shelf. Concludes (FilesSay (fresh no_facts) begun shelf (g.C.Clock.moments c.args.clock.now) (file_command_view c.in-Some-OnFiles.command)) (g.W.Sink.written c.args.output.now) (g.W.Sink.written c.on_files.new.output) c.on_files.result) told c.on_files.ensures.ends))
 
 pub returns-in-Some-OnFiles-clause-refused_cause : goal.returns-in-Some-OnFiles-clause-refused_cause
 returns-in-Some-OnFiles-clause-refused_cause g c = λ files told uncut.
     subst (λ command. (c.on_files.result ≡ Refused) ↔ WouldSay (fresh no_facts) begun files (g.C.Clock.moments c.args.clock.now) command Refused) (rw c.in-Some-OnFiles.field-0-is at c.in-Some-OnFiles.ensures)
-    (timeless_exactly c.each_work_has_one_status.ensures.compile c.each_work_has_one_status.ensures.dump c.an_assessment_has_one_status.ensures.told c.an_assessment_has_one_status.ensures.refused
+    (timeless_exactly c.each_work_has_one_status.ensures.compile c.each_work_has_one_status.ensures.compile_set c.each_work_has_one_status.ensures.dump c.an_assessment_has_one_status.ensures.told c.an_assessment_has_one_status.ensures.refused
     (fresh no_facts) begun files (file_command_view c.in-Some-OnFiles.command) (g.W.Sink.written c.args.output.now) (g.W.Sink.written c.on_files.new.output) c.on_files.result (g.C.Clock.moments c.args.clock.now) Refused tt uncut
     (subst (λ shelf. Concludes (FilesSay (fresh no_facts) begun shelf (g.C.Clock.moments c.args.clock.now) (file_command_view c.in-Some-OnFiles.command)) (g.W.Sink.written c.args.output.now) (g.W.Sink.written c.on_files.new.output) c.on_files.result) told c.on_files.ensures.ends))
 
 pub returns-in-Some-OnFiles-clause-denied_cause : goal.returns-in-Some-OnFiles-clause-denied_cause
 returns-in-Some-OnFiles-clause-denied_cause g c = λ files moments told time uncut.
     subst (λ command. (c.on_files.result ≡ Denied) ↔ WouldSay (fresh no_facts) begun files (Some moments) command Denied) (rw c.in-Some-OnFiles.field-0-is at c.in-Some-OnFiles.ensures)
-    (told_exactly c.each_work_has_one_status.ensures.compile c.each_work_has_one_status.ensures.dump c.an_assessment_has_one_status.ensures.told c.an_assessment_has_one_status.ensures.refused
+    (told_exactly c.each_work_has_one_status.ensures.compile c.each_work_has_one_status.ensures.compile_set c.each_work_has_one_status.ensures.dump c.an_assessment_has_one_status.ensures.told c.an_assessment_has_one_status.ensures.refused
     (fresh no_facts) begun files (file_command_view c.in-Some-OnFiles.command) (g.W.Sink.written c.args.output.now) (g.W.Sink.written c.on_files.new.output) c.on_files.result moments Denied uncut
     (subst (λ time. Concludes (FilesSay (fresh no_facts) begun (Some files) time (file_command_view c.in-Some-OnFiles.command)) (g.W.Sink.written c.args.output.now) (g.W.Sink.written c.on_files.new.output) c.on_files.result) time
     (subst (λ shelf. Concludes (FilesSay (fresh no_facts) begun shelf (g.C.Clock.moments c.args.clock.now) (file_command_view c.in-Some-OnFiles.command)) (g.W.Sink.written c.args.output.now) (g.W.Sink.written c.on_files.new.output) c.on_files.result) told c.on_files.ensures.ends)))

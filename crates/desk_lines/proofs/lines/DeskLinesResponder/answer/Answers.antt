@@ -1,8 +1,6 @@
 -- A reply more makes the session one line longer; a line that isn't answered leaves it.
-use Rattle.std.proofs.Common.{◌≡◌, ◌∙◌, Err}
+use Rattle.std.proofs.Common.{◌∙◌}
 use Rattle.std.proofs.lemmas.Result.{on_ok_weaker, on_err_weaker}
-use Rattle.session_model.specs.Lines.{IsAsked}
-use Rattle.line_words.specs.Faults.{fault_of}
 use Rattle.desk_lines.proofs.OneLineMore.{answered_more, answered_still}
 use Rattle.desk_lines.proofs.lines.DeskLinesResponder.answer.Goals as goal
 
@@ -17,8 +15,8 @@ returns-in-Ok-clause-refuses c = on_err_weaker c.reply.result
     (λ still begin lines replies answered. (answered_still _ _ _ lines replies still answered.0, c.reply.ensures.name ∙ answered.1))
     c.reply.ensures.refuses
 
-pub returns-in-Err-Refused-clause-answers : goal.returns-in-Err-Refused-clause-answers
-returns-in-Err-Refused-clause-answers c =
-    let asks : IsAsked c.args.line.now (Err (fault_of c.in-Err-Refused.fault)) = rw c.in-Err-Refused.field-0-is at c.in-Err-Refused.ensures in
-    λ begin whole lines replies front answered.
-    (answered_more _ _ _ _ _ _ whole lines replies c.the_front_asks_the_same.ensures asks front c.refuse.ensures.replies answered.0, answered.1)
+pub returns-in-Err-clause-answers : goal.returns-in-Err-clause-answers
+returns-in-Err-clause-answers c = on_ok_weaker c.refuse.result
+    (λ refused begin whole lines replies front answered.
+    (answered_more _ _ _ _ _ _ whole lines replies c.the_front_asks_the_same.ensures (c.in-Err.ensures refused.0) front refused.1 answered.0, answered.1))
+    c.refuse.ensures.replies

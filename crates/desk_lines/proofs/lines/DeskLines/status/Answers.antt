@@ -1,0 +1,19 @@
+-- What a desk says of itself is what its history says.
+use Rattle.std.proofs.Common.{◌≡◌, ◌∙◌, sym, ap, refl, length}
+use Rattle.policy_model.specs.Tables.{Tables}
+use Rattle.policy_model.specs.History.{tables_of, now_of}
+use Rattle.policy_model.specs.History as event
+use Rattle.session_model.specs.Session.{happens}
+use Rattle.desk_state.specs.Stands.{tables}
+use Rattle.desk_lines.proofs.lines.DeskLines.status.Goals as goal
+
+pub returns-clause-replies : goal.returns-clause-replies
+returns-clause-replies c = λ o s stands.
+    let is = c.status-standing.ensures.is in
+    let t : tables c.args.self.now.desk.now ≡ tables_of o s.history = stands.tables_are in
+    let enabled : c.status-standing.result.enabled ≡ (tables_of o s.history).enabled = is.enabled_is ∙ ap (λ (x : Tables). x.enabled) t in
+    let rules : c.status-standing.result.rules ≡ length (tables_of o s.history).rows = is.rules_are ∙ ap (λ (x : Tables). length x.rows) t in
+    let receipts : c.status-standing.result.receipts ≡ length (tables_of o s.history).receipts = is.receipts_are ∙ ap (λ (x : Tables). length x.receipts) t in
+    let now : c.status-standing.result.now ≡ now_of o s.history = is.now_is ∙ stands.now_is in
+    let objects : c.status-standing.result.objects ≡ length o.entries = is.objects_are ∙ sym (ap length stands.sound.no_entries) in
+    (happens event.look s, (refl, rw (c.status_into.ensures.text, enabled, rules, receipts, objects, now) refl), c.status-standing.ensures.stands o s.history stands)
