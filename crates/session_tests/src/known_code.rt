@@ -1,0 +1,68 @@
+//! Sessions over facts, whose replies were worked out by hand.
+
+use code_facts::FactTable;
+use desk_lines::session_lines;
+use desk_state::Desk;
+use gk_io::{CallNumbers, MemorySink, MemorySource};
+use line_session::Ended;
+use std::alloc::Global;
+use std::sync::Arc;
+
+// What is known of one program, as `examples/facts.csv` has it.
+#[rattlefmt::skip]
+const FACTS: &[u8] = b"cdhash,scope,slot,key,kind,value\n1111111111111111111111111111111111111111,flag,,anchor-apple-generic,,\n1111111111111111111111111111111111111111,cert,0,,hash,aaaaaaaaaaaaaaaaaaaaaaaaaaaaaaaaaaaaaaaa\n1111111111111111111111111111111111111111,cert,1,,hash,bbbbbbbbbbbbbbbbbbbbbbbbbbbbbbbbbbbbbbbb\n1111111111111111111111111111111111111111,cert,2,,hash,cccccccccccccccccccccccccccccccccccccccc\n1111111111111111111111111111111111111111,cert-oid,1,1.2.840.113635.100.6.2.6,true,\n1111111111111111111111111111111111111111,cert-oid,0,1.2.840.113635.100.6.1.13,true,\n1111111111111111111111111111111111111111,cert-field,0,subject.OU,text,2DC432GLL2\n1111111111111111111111111111111111111111,info,,Version,text,10.9\n1111111111111111111111111111111111111111,info,,Build,text,007\n1111111111111111111111111111111111111111,info,,Tags,item,red\n1111111111111111111111111111111111111111,info,,Tags,item,blue\n1111111111111111111111111111111111111111,info,,Off,false,\n";
+
+// Lines, and the replies.
+#[rattlefmt::skip]
+const SESSIONS: [(&str, &[u8], &[u8]); 6] = [
+    ("the code of one developer",
+        b"add d execute allow 0 never Developer%20ID - identifier \"com.example.app\" and anchor apple generic and certificate 1[field.1.2.840.113635.100.6.2.6] /* exists */ and certificate leaf[field.1.2.840.113635.100.6.1.13] /* exists */ and certificate leaf[subject.OU] = \"2DC432GLL2\"\nassess execute 1111111111111111111111111111111111111111 com.example.app 0\nassess execute 2222222222222222222222222222222222222222 com.example.app 0\n",
+        b"ok edit=1 rules=1\naccepted at=0 rule=1 latent=none label=Developer%20ID override=none source=rules cache=off\nrejected at=0 rule=none latent=none label=no%20matching%20rule override=none source=rules cache=off\n"),
+    ("numbers in a version",
+        b"add a execute allow 0 never - - info[Version] < \"10.10\"\nassess execute 1111111111111111111111111111111111111111 com.example.app 0\nadd b execute deny 1 never - - info[Build] < \"7\"\nassess execute 1111111111111111111111111111111111111111 com.example.app 0\nadd c execute deny 2 never - - info[Build] <= \"7\"\nassess execute 1111111111111111111111111111111111111111 com.example.app 0\n",
+        b"ok edit=1 rules=1\naccepted at=0 rule=1 latent=none label=- override=none source=rules cache=off\nok edit=2 rules=1\naccepted at=0 rule=1 latent=none label=- override=none source=rules cache=off\nok edit=3 rules=1\nrejected at=0 rule=3 latent=none label=- override=none source=rules cache=off\n"),
+    ("places of a chain",
+        b"add a execute allow 0 never - - certificate 3[subject.OU] absent\nassess execute 1111111111111111111111111111111111111111 com.example.app 0\nadd b execute allow 0 never - - certificate leaf[subject.CN] absent\nassess execute 1111111111111111111111111111111111111111 com.example.app 0\nadd c execute deny 0.000001 never Root - certificate -1 = H\"cccccccccccccccccccccccccccccccccccccccc\"\nassess execute 1111111111111111111111111111111111111111 com.example.app 0\n",
+        b"ok edit=1 rules=1\nrejected at=0 rule=none latent=none label=no%20matching%20rule override=none source=rules cache=off\nok edit=2 rules=1\naccepted at=0 rule=2 latent=none label=- override=none source=rules cache=off\nok edit=3 rules=1\nrejected at=0 rule=3 latent=none label=Root override=none source=rules cache=off\n"),
+    ("truth values and items",
+        b"add a execute allow 0 never - - info[Off] or info[Off] absent\nassess execute 1111111111111111111111111111111111111111 com.example.app 0\nadd b execute allow 0 never Blue%20tag - info[Tags] = blue and info[Nope] absent\nassess execute 1111111111111111111111111111111111111111 com.example.app 0\nassess install 1111111111111111111111111111111111111111 com.example.app 0\n",
+        b"ok edit=1 rules=1\nrejected at=0 rule=none latent=none label=no%20matching%20rule override=none source=rules cache=off\nok edit=2 rules=1\naccepted at=0 rule=2 latent=none label=Blue%20tag override=none source=rules cache=off\nrejected at=0 rule=none latent=none label=no%20matching%20rule override=none source=rules cache=off\n"),
+    ("a moment and an end",
+        b"add a execute allow 10 1000 Developer%20ID default anchor apple generic\ntick 999\nassess execute 1111111111111111111111111111111111111111 com.example.app 0\nassess execute 2222222222222222222222222222222222222222 com.example.app 0\ntick 1000\nassess execute 1111111111111111111111111111111111111111 com.example.app 0\n",
+        b"ok edit=1 rules=1\nnow=999\naccepted at=999 rule=1 latent=none label=Developer%20ID override=none source=rules cache=off\nrejected at=999 rule=none latent=none label=no%20matching%20rule override=none source=rules cache=off\nnow=1000\nrejected at=1000 rule=none latent=none label=no%20matching%20rule override=none source=rules cache=off\n"),
+    ("a latent rule, and the switch",
+        b"add d execute allow 0 never Developer%20ID - anchor apple generic\ndisable b id 1 execute\nassess execute 1111111111111111111111111111111111111111 com.example.app 0\nassess execute 2222222222222222222222222222222222222222 com.example.app 0\nenable c label Developer%20ID any\nassess execute 1111111111111111111111111111111111111111 com.example.app 0\nremove e label Developer%20ID install\nswitch s off\nassess execute 2222222222222222222222222222222222222222 com.example.app 0\nstatus\n",
+        b"ok edit=1 rules=1\nok edit=2 rules=1\nrejected at=0 rule=none latent=1 label=Developer%20ID override=none source=rules cache=off\nrejected at=0 rule=none latent=none label=no%20matching%20rule override=none source=rules cache=off\nok edit=3 rules=1\naccepted at=0 rule=1 latent=none label=Developer%20ID override=none source=rules cache=off\nrefused edit 11 NoRule\nok edit=4 rules=0\naccepted at=0 rule=none latent=none label=no%20matching%20rule override=security%20disabled source=rules cache=off\nstatus assessments=disabled rules=1 receipts=4 objects=0 now=0\n"),
+];
+
+/// A desk that knows what a facts file says.
+fn desk_by(alloc: Global, facts: &[u8]) -> Option<Desk> {
+    let table = FactTable::read(alloc, facts).ok()?;
+    let facts = Arc::new(alloc, table).ok()?;
+    Some(Desk::fresh(alloc, facts))
+}
+
+/// Whether a session of that desk gives just these replies.
+fn is_session(alloc: Global, lines: &[u8], replies: &[u8]) -> Option<bool> {
+    let mut desk = desk_by(alloc, FACTS)?;
+    let bytes = Vec::from_slice(alloc, lines).ok()?;
+    let mut input = MemorySource::new(bytes, CallNumbers::new(alloc));
+    let mut output = MemorySink::with_room(alloc, 4_096, CallNumbers::new(alloc)).ok()?;
+    let ended = session_lines(alloc, &mut desk, &mut input, &mut output);
+    let is = ended == Ended::Fine && output.written() == replies;
+    Some(is)
+}
+
+fn all_are(alloc: Global) -> bool {
+    for (_name, lines, replies) in SESSIONS {
+        if is_session(alloc, lines, replies) != Some(true) {
+            return false;
+        }
+    }
+    true
+}
+
+#[test]
+fn sessions_over_facts_are_answered(rt: HostRuntime) {
+    assert!(rt; all_are(rt.alloc()));
+}
