@@ -66,7 +66,7 @@ fn answer(desk: &mut Desk, ask: &Ask, now: u64, out: &mut LineText) -> Assessed
 {
     desk.tick(moment_at(now));
     let verdict = desk.ask(ask);
-    verdict.line_into(out);
+    verdict.line_uncached(out);
     if verdict.allow {
         Assessed::Accepted
     } else {

@@ -110,7 +110,7 @@ impl<'a> DeskLines<'a> {
             (Ok (model.assess (ask_of ask.now))) (line_bytes out.new) }
     {
         let verdict = self.desk.ask(ask);
-        verdict.line_into(out);
+        verdict.line_uncached(out);
     }
 
     fn status(&self, out: &mut LineText)

@@ -17,15 +17,6 @@ use Rattle.desk_state.specs.declared.desk.Desk.{Desk}
 use Rattle.desk_state.specs.Answer.{IsDone}
 use Rattle.desk_state.specs.Stands.{tables, moment_of, facts_of, Stands}
 
--- one more event
-pub stands_more : TablesGoOn → MomentGoesOn → (d e : Desk) (ev : Event) → tables e ≡ tables_step ev (tables d) → moment_of e ≡ now_step ev (moment_of d) → facts_of e ≡ facts_of d → (o : Opening) (h : List Event) → Stands d o h → Stands e o (h ++ ev ∷ [])
-stands_more tables_go moment_goes d e ev t n f o h s = record {
-  sound = s.sound;
-  tables_are = t ∙ ap (tables_step ev) s.tables_are ∙ sym (tables_go o h ev);
-  now_is = n ∙ ap (now_step ev) s.now_is ∙ sym (moment_goes o h ev);
-  facts_are = f ∙ s.facts_are;
-}
-
 -- the verdict by the rules that were found
 pub verdict_found : OutcomeIsOne → (d : Desk) (a : Ask) (s : Subject) (f : Found) (v : Verdict) → HasOwnIds (tables d) → a.subject ≡ Some s → IsFound (tables d).rows a.kind s (facts_of d) (moment_of d) f → ((kind : Kind) → v ≡ verdict_by (tables d).enabled (moment_of d) (outcome_by (tables d).rows kind (moment_of d) (governing_row f) (latent_row f))) → v ≡ verdict (tables d).rows (tables d).enabled (facts_of d) (moment_of d) a
 verdict_found one d a s f v ids signed found by =

@@ -2,3 +2,5 @@ mod GoesOn
 mod Places
 mod Made
 mod Refused
+mod Assessed
+mod Purged

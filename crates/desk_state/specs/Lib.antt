@@ -2,6 +2,9 @@ pub mod Answer
 pub mod Verdict
 pub mod Receipt
 pub mod Plan
+pub mod Cache
 pub mod Stands
+pub mod Begun
+pub mod Finished
 pub mod Accepted
 pub mod Status

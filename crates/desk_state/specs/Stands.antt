@@ -1,13 +1,16 @@
 -- What a desk stands for: an opening, and what has happened since.
-use Rattle.std.specs.Prelude.{◌≡◌, ℕ, List, []}
+use Rattle.std.specs.Prelude.{ℕ, List}
 use Rattle.std.specs.Arc.{arc_value}
 use Rattle.req_tree.specs.Facts.{Facts}
 use Rattle.code_facts.specs.Tables.{table_facts}
 use Rattle.authority_table.specs.Rule.{rows_of}
 use Rattle.policy_model.specs.Tables.{Tables}
-use Rattle.policy_model.specs.History.{Event, Opening, tables_of, now_of, HasOwnIds, HasOwnKeys}
+use Rattle.policy_model.specs.History.{Event, Opening}
 use Rattle.desk_state.specs.declared.desk.Desk.{Desk}
 use Rattle.desk_state.specs.Receipt.{receipts_of}
+use Rattle.object_model.specs.Stands as model
+use Rattle.object_cache.specs.Objects.{held, counts}
+use Rattle.desk_state.specs.Cache.{Cache, cache_in}
 
 -- the rules, the receipts and the switch of a desk
 abbrev pub tables : Desk → Tables
@@ -21,15 +24,14 @@ moment_of d = d.moment
 abbrev pub facts_of : Desk → Facts
 facts_of d = table_facts (arc_value d.facts)
 
--- where a desk may begin: ids are its own, keys differ, and no outcome is kept yet
-pub record IsSound (o : Opening) : Type 0 where
-  pub own_ids : HasOwnIds o.tables
-  pub own_keys : HasOwnKeys o.tables
-  pub no_entries : o.entries ≡ []
+-- what a desk holds, as plain data
+abbrev pub plain : Desk → Opening
+plain d = record { tables = tables d; facts = facts_of d; now = moment_of d; entries = held d.objects; counts = counts d.objects }
 
 -- the desk is where the history h leads from the sound opening o
-pub record Stands (d : Desk) (o : Opening) (h : List Event) : Type 0 where
-  pub sound : IsSound o
-  pub tables_are : tables d ≡ tables_of o h
-  pub now_is : moment_of d ≡ now_of o h
-  pub facts_are : facts_of d ≡ o.facts
+abbrev pub Stands : Desk → Opening → List Event → Type 0
+Stands d o h = model.Stands (plain d) o h
+
+-- what it keeps of earlier assessments
+abbrev pub cache_of : Desk → Cache
+cache_of d = cache_in d.objects

@@ -4,12 +4,17 @@ ghost use Rattle.std.specs.Prelude.{◌≡◌, ◌+◌, ◌<◌, ◌≤◌, ◌+
 ghost use Rattle.authority_table.specs.Rule.{rows_of};
 ghost use Rattle.policy_model.specs.History.{HasOwnIds};
 ghost use Rattle.desk_state.specs.Receipt.{receipts_of};
+ghost use Rattle.object_model.specs.declared.limits.TheConstants.{MOST_ENTRIES};
+ghost use Rattle.object_cache.specs.Objects.{room_of, counts};
+ghost use Rattle.desk_state.specs.Cache.{AreAtMost};
 
+mod assessing;
 mod planning;
 
 use crate::answer::Answer;
 use crate::fault::EditFault;
 use crate::plan::Plan;
+use crate::purging::purge;
 use crate::receipt::{Receipt, Receipts};
 use crate::status::DeskStatus;
 use crate::verdict::{Origin, Verdict};
@@ -17,6 +22,9 @@ use assess::Ask;
 use authority_table::{Found, Label, Moment, Prepared, RuleId, Table};
 use code_facts::FactTable;
 use fact_values::Facts;
+use object_cache::Objects;
+use object_model::laws::{a_desk_goes_on_standing, first_ranks_purge, kept_stays_right};
+use object_model::limits::MOST_ENTRIES;
 use policy_model::laws::{history_goes_on, ids_stay_own, keys_stay_own, one_outcome};
 use req_tree::Subject;
 use rule_edits::{Edit, content_is, content_text};
@@ -34,7 +42,11 @@ pub struct Desk {
     moment: Moment,
     /// What is known of code.
     facts: Arc<FactTable>,
+    /// What is kept of earlier assessments.
+    objects: Objects,
     ghost own_ids: { HasOwnIds (record { rows = rows_of table; receipts = receipts_of receipts; enabled = enabled }) },
+    ghost room: { room_of objects ≡ MOST_ENTRIES },
+    ghost marks: { AreAtMost (length receipts) (counts objects) },
 }
 
 impl Desk {
@@ -49,7 +61,8 @@ impl Desk {
     ghost use Rattle.policy_model.specs.Rules.{Kind};
     ghost use Rattle.policy_model.specs.Outcomes as policy;
     ghost use Rattle.policy_model.specs.Tables.{IsAccepted};
-    ghost use Rattle.policy_model.specs.Edits.{does, kept};
+    ghost use Rattle.policy_model.specs.Edits.{does, at_new, kept};
+    ghost use Rattle.policy_model.specs.Refusals.{refusal};
     ghost use Rattle.policy_model.specs.ReplyTexts.{origin_on, rules};
     ghost use Rattle.authority_table.specs.Label.{label_bytes};
     ghost use Rattle.authority_table.specs.Found.{governing_row, latent_row};
@@ -61,20 +74,22 @@ impl Desk {
     ghost use Rattle.desk_state.specs.Accepted.{IsDoneAtNew};
     ghost use Rattle.desk_state.specs.Status.{IsStatus};
     ghost use Rattle.desk_state.specs.Verdict.{verdict_of, origin_of};
-    ghost use Rattle.desk_state.specs.Stands.{tables, moment_of, facts_of, Stands};
+    ghost use Rattle.desk_state.specs.Stands.{tables, moment_of, facts_of, cache_of, Stands};
+    ghost use Rattle.desk_state.specs.Cache.{IsPurged, purged_so};
 
     /// A desk that knows these facts, without rules, at moment 0, with assessments switched on.
     pub fn fresh(alloc: Global, facts: Arc<FactTable>) -> Desk
         ensures { Stands result (fresh (table_facts (arc_value facts))) [] }
     {
-        ids_stay_own();
-        keys_stay_own();
+        a_desk_goes_on_standing();
+        kept_stays_right();
         Desk {
             table: Table::new(alloc),
             receipts: Receipts::new(alloc),
             enabled: true,
             moment: Moment::zero(),
             facts,
+            objects: Objects::new(alloc, MOST_ENTRIES),
         }
     }
 
@@ -98,6 +113,7 @@ impl Desk {
         ensures legal { (o : Opening) (h : List Event) → Stands self.old o h → result ≡ now_of o (h ++ event.tick at ∷ []) }
     {
         history_goes_on();
+        a_desk_goes_on_standing();
         self.moment = later(self.moment, at);
         self.moment
     }
@@ -111,7 +127,7 @@ impl Desk {
         ensures legal { (o : Opening) (h : List Event) → Stands self.now o h → verdict_of result ≡ ask_answer o h (ask_of ask.now) }
         ensures stands { (o : Opening) (h : List Event) → Stands self.now o h → Stands self.now o (h ++ event.ask (ask_of ask.now) ∷ []) }
     {
-        history_goes_on();
+        a_desk_goes_on_standing();
         one_outcome();
         match &ask.subject {
             None => self.decided(
@@ -194,6 +210,7 @@ impl Desk {
         ensures does { IsDone (does (tables self.old) (edit_of edit.now)) (tables self.old) (tables self.new) (given result) }
         ensures moment { moment_of self.new ≡ moment_of self.old }
         ensures facts { facts_of self.new ≡ facts_of self.old }
+        ensures cache { IsPurged (does (tables self.old) (edit_of edit.now)) (cache_of self.old) (cache_of self.new) (given result) }
 
         // It is out of memory in place of an acceptance alone.
         ensures wanting { IsNone (given result) → IsAccepted (does (tables self.old) (edit_of edit.now)).answer }
@@ -203,7 +220,8 @@ impl Desk {
         ensures stands { (o : Opening) (h : List Event) → IsSome (given result) → Stands self.old o h → Stands self.new o (h ++ event.edit (edit_of edit.now) ∷ []) }
         ensures unchanged { (o : Opening) (h : List Event) → IsNone (given result) → Stands self.old o h → Stands self.new o h }
     {
-        history_goes_on();
+        a_desk_goes_on_standing();
+        first_ranks_purge();
         match self.receipts.find(&edit.key) {
             Some(receipt) => at_kept(receipt, edit),
             None => self.accept(alloc, edit),
@@ -217,12 +235,12 @@ impl Desk {
         // After any history of this desk.
         ensures stands { (o : Opening) (h : List Event) → Stands self.now o h → Stands self.now o (h ++ event.look ∷ []) }
     {
-        history_goes_on();
+        a_desk_goes_on_standing();
         DeskStatus {
             enabled: self.enabled,
             rules: self.table.count(),
             receipts: self.receipts.count(),
-            objects: 0,
+            objects: self.objects.live(self.moment),
             now: self.moment,
         }
     }
@@ -230,9 +248,11 @@ impl Desk {
     /// Makes an edit under a new key, or refuses it.
     fn accept(&mut self, alloc: Global, edit: &Edit) -> Result<Answer, EditFault>
         requires { kept (tables self.old).receipts (edit_of edit.now).key ≡ None }
-        ensures { IsDoneAtNew (edit_of edit.now) self.old self.new (given result) }
+        ensures done { IsDoneAtNew (edit_of edit.now) self.old self.new (given result) }
+        ensures cache { IsPurged (at_new (refusal (edit_of edit.now).content (tables self.old)) (edit_of edit.now) (tables self.old)) (cache_of self.old) (cache_of self.new) (given result) }
     {
         ids_stay_own();
+        first_ranks_purge();
         let plan = self.plan(alloc, &edit.content)?;
         let receipt = self.receipt(alloc, edit, plan.count())?;
         let answer = Answer {
@@ -264,11 +284,13 @@ impl Desk {
         requires fits { IsFor plan.rows (tables self.old).rows }
         requires own { HasOwnIds (with_plan plan receipt (tables self.old)) }
         ensures tables { tables self.new ≡ carried_out result plan receipt (tables self.old) }
+        ensures cache { cache_of self.new ≡ purged_so result plan.rows (cache_of self.old) }
         ensures moment { moment_of self.new ≡ moment_of self.old }
         ensures facts { facts_of self.new ≡ facts_of self.old }
     {
         let Plan { rows, enabled } = plan;
         self.receipts.push(receipt)?;
+        purge(&mut self.objects, &rows);
         commit(&mut self.table, rows);
         self.enabled = enabled;
         Ok(())

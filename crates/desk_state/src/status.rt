@@ -11,7 +11,7 @@ pub struct DeskStatus {
     pub rules: u32,
     /// How many edits were accepted.
     pub receipts: u32,
-    /// How many outcomes are kept: none yet.
+    /// How many outcomes are kept that haven't ended.
     pub objects: u32,
     /// The desk's moment.
     pub now: Moment,

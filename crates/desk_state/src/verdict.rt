@@ -1,11 +1,14 @@
 //! The verdict on an assessment.
 
-ghost use Rattle.std.specs.Prelude.{◌≡◌, ◌+◌, ◌≤◌, ◌++◌, length};
+ghost use Rattle.std.specs.Prelude.{◌≡◌, ◌+◌, ◌≤◌, ◌++◌, length, option_map};
 ghost use Rattle.line_text.specs.LineText.{line_bytes};
 ghost use Rattle.line_text.specs.declared.limits.TheConstants.{FRONT_LIMIT, LINE_ROOM};
-ghost use Rattle.policy_model.specs.ReplyTexts.{verdict_text, number_text, accepted_text, override_text, origin_text, fate_text, fate_by};
+ghost use Rattle.policy_model.specs.ReplyTexts.{Fate, verdict_text, number_text, accepted_text, override_text, origin_text, fate_text, fate_by};
+ghost use Rattle.object_model.specs.Origins.{fate_of};
+ghost use Rattle.object_cache.specs.Offered.{offered_of};
 
 use authority_table::{Label, Moment, RuleId};
+use object_cache::Offered;
 use req_tree::LineText;
 
 /// What is answered to an assessment.
@@ -39,10 +42,30 @@ pub enum Origin {
 impl Verdict {
     ghost use Rattle.desk_state.specs.Verdict.{verdict_of, origin_of};
 
-    /// Appends the reply's line, without its end.
-    pub fn line_into(&self, out: &mut LineText)
+    /// Appends the reply's line, without its end; its last word says what became of the outcome that was offered, or
+    /// that none was.
+    pub fn line_into(&self, offered: Option<Offered>, out: &mut LineText)
+        requires { length (line_bytes out.old) ≤ FRONT_LIMIT }
+        ensures text { line_bytes out.new ≡ line_bytes out.old ++ verdict_text (verdict_of self.now) (origin_of self.now.origin) (fate_of (option_map offered_of offered)) }
+        ensures length { length (line_bytes out.new) ≤ length (line_bytes out.old) + 620 }
+    {
+        self.line_with(fate_word(offered), out)
+    }
+
+    /// The same of a verdict whose outcome isn't kept.
+    pub fn line_uncached(&self, out: &mut LineText)
         requires { length (line_bytes out.old) ≤ FRONT_LIMIT }
         ensures text { line_bytes out.new ≡ line_bytes out.old ++ verdict_text (verdict_of self.now) (origin_of self.now.origin) (fate_by (origin_of self.now.origin)) }
+        ensures length { length (line_bytes out.new) ≤ length (line_bytes out.old) + 620 }
+    {
+        self.line_with(self.origin.uncached_word(), out)
+    }
+
+    fn line_with(&self, fate: &[u8], out: &mut LineText)
+        requires room { length (line_bytes out.old) ≤ FRONT_LIMIT }
+        requires fate { length fate.now ≤ 9 }
+        ensures text { (told : Fate) → fate_text told ≡ fate.now
+            → line_bytes out.new ≡ line_bytes out.old ++ verdict_text (verdict_of self.now) (origin_of self.now.origin) told }
         ensures length { length (line_bytes out.new) ≤ length (line_bytes out.old) + 620 }
     {
         out.push_all(accepted_word(self.allow));
@@ -59,7 +82,7 @@ impl Verdict {
         out.push_all(b" source=");
         out.push_all(self.origin.word());
         out.push_all(b" cache=");
-        out.push_all(self.origin.fate_word());
+        out.push_all(fate);
     }
 }
 
@@ -77,8 +100,8 @@ impl Origin {
         }
     }
 
-    /// What became of the offer to keep the outcome: nothing is kept yet.
-    fn fate_word(self) -> &'static [u8]
+    /// What became of the outcome of a verdict of this origin, where none is kept.
+    fn uncached_word(self) -> &'static [u8]
         ensures word { result.now ≡ fate_text (fate_by (origin_of self)) }
         ensures length { length result.now ≤ 4 }
     {
@@ -87,6 +110,22 @@ impl Origin {
             Origin::Cache => b"none",
             Origin::Unsigned => b"none",
         }
+    }
+}
+
+/// What became of an offered outcome.
+fn fate_word(offered: Option<Offered>) -> &'static [u8]
+    ensures word { result.now ≡ fate_text (fate_of (option_map offered_of offered)) }
+    ensures length { length result.now ≤ 9 }
+{
+    match offered {
+        None => b"none",
+        Some(Offered::Kept) => b"kept",
+        Some(Offered::Inhibited) => b"inhibited",
+        Some(Offered::Moved) => b"moved",
+        Some(Offered::Expired) => b"expired",
+        Some(Offered::Twice) => b"twice",
+        Some(Offered::Full) => b"full",
     }
 }
 

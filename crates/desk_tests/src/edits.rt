@@ -18,7 +18,7 @@ pub fn answers(answer: &Result<Answer, EditFault>, text: &[u8]) -> bool {
 
 pub fn prints(verdict: &Verdict, text: &[u8]) -> bool {
     let mut out = LineText::new();
-    verdict.line_into(&mut out);
+    verdict.line_uncached(&mut out);
     out.as_slice() == text
 }
 

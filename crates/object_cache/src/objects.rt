@@ -40,15 +40,23 @@ impl Objects {
     ghost use Rattle.object_cache.specs.Objects.{held, counts, room_of, live_at, IsEmpty, decision_on};
 
     /// No entries yet, and room for so many.
+    pub fn new(alloc: Global, room: usize) -> Objects
+        requires { room ≤ MOST_ENTRIES }
+        ensures { IsEmpty room result }
+    {
+        Objects {
+            entries: Vec::new(alloc),
+            marks: Marks::none(),
+            room,
+        }
+    }
+
+    /// The same, for callers that let it take memory.
     pub fn with_room(alloc: Global, room: usize) -> Result<Objects, AllocError>
         requires { room ≤ MOST_ENTRIES }
         ensures { IfOk result (λ objects. IsEmpty room objects) }
     {
-        Ok(Objects {
-            entries: Vec::new(alloc),
-            marks: Marks::none(),
-            room,
-        })
+        Ok(Objects::new(alloc, room))
     }
 
     /// The entry for a kind and a subject that hasn't ended.

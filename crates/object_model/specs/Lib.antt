@@ -10,3 +10,4 @@ pub mod Laws
 pub mod DropLaws
 pub mod Stands
 pub mod StandsLaws
+pub mod Origins

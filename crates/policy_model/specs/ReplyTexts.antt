@@ -28,6 +28,17 @@ pub data Fate : Type 0 where
   off : Fate
   -- no rule was asked, so there was nothing to offer
   not_offered : Fate
+  kept : Fate
+  -- the asker or the rule forbade to keep it
+  inhibited : Fate
+  -- an edit since the ask touched a rule that it rests on
+  moved : Fate
+  -- its end was reached
+  expired : Fate
+  -- one of that kind and subject is kept already
+  twice : Fate
+  -- as many are kept as may be
+  full : Fate
 
 -- the fate of an outcome of this origin, while no outcome is kept
 abbrev pub fate_by : Origin → Fate
@@ -43,6 +54,12 @@ fate_on s = fate_by (origin_on s)
 abbrev pub fate_text : Fate → List ℕ
 fate_text off = codes "off"
 fate_text not_offered = codes "none"
+fate_text kept = codes "kept"
+fate_text inhibited = codes "inhibited"
+fate_text moved = codes "moved"
+fate_text expired = codes "expired"
+fate_text twice = codes "twice"
+fate_text full = codes "full"
 
 -- a rule's number, or none
 abbrev pub number_text : Option ℕ → List ℕ

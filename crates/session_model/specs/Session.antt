@@ -2,6 +2,7 @@
 use Rattle.std.specs.Prelude.{◌≡◌, List, [], ◌∷◌, ◌++◌, length, ℕ, Result, Ok, Err}
 use Rattle.policy_model.specs.History.{Event, Opening, tables_of, now_of, ask_answer, edit_answer}
 use Rattle.policy_model.specs.History as event
+use Rattle.object_model.specs.Kept.{objects_of}
 use Rattle.policy_model.specs.ReplyTexts.{now_text, verdict_text, origin_on, fate_on, answer_text}
 use Rattle.line_model.specs.LineFaults.{LineFault, line_fault_text}
 use Rattle.session_model.specs.Lines.{Request, tick, assess, status, edit, IsAsked}
@@ -23,7 +24,7 @@ happens e s = record { history = s.history ++ e ∷ [] }
 abbrev pub Replies : Opening → State → Result Request LineFault → List ℕ → State → Type 0
 Replies o s (Ok (tick m)) reply after = (after ≡ happens (event.tick m) s) × (reply ≡ now_text (now_of o after.history))
 Replies o s (Ok (assess a)) reply after = (after ≡ happens (event.ask a) s) × (reply ≡ verdict_text (ask_answer o s.history a) (origin_on a.subject) (fate_on a.subject))
-Replies o s (Ok status) reply after = (after ≡ happens event.look s) × (reply ≡ status_text (tables_of o s.history) (length o.entries) (now_of o s.history))
+Replies o s (Ok status) reply after = (after ≡ happens event.look s) × (reply ≡ status_text (tables_of o s.history) (length (objects_of o s.history)) (now_of o s.history))
 Replies o s (Ok (edit e)) reply after = (after ≡ happens (event.edit e) s) × (reply ≡ answer_text (edit_answer o s.history e))
 Replies o s (Err fault) reply after = (after ≡ s) × (reply ≡ line_fault_text fault)
 

@@ -1,5 +1,5 @@
 -- What a desk says of itself is what its history says.
-use Rattle.std.proofs.Common.{◌≡◌, ◌∙◌, sym, ap, refl, length}
+use Rattle.std.proofs.Common.{◌≡◌, ◌∙◌, ap, refl, length}
 use Rattle.policy_model.specs.Tables.{Tables}
 use Rattle.policy_model.specs.History.{tables_of, now_of}
 use Rattle.policy_model.specs.History as event
@@ -15,5 +15,5 @@ returns-clause-replies c = λ o s stands.
     let rules : c.status-standing.result.rules ≡ length (tables_of o s.history).rows = is.rules_are ∙ ap (λ (x : Tables). length x.rows) t in
     let receipts : c.status-standing.result.receipts ≡ length (tables_of o s.history).receipts = is.receipts_are ∙ ap (λ (x : Tables). length x.receipts) t in
     let now : c.status-standing.result.now ≡ now_of o s.history = is.now_is ∙ stands.now_is in
-    let objects : c.status-standing.result.objects ≡ length o.entries = is.objects_are ∙ sym (ap length stands.sound.no_entries) in
+    let objects = is.objects_are ∙ ap length stands.objects_are in
     (happens event.look s, (refl, rw (c.status_into.ensures.text, enabled, rules, receipts, objects, now) refl), c.status-standing.ensures.stands o s.history stands)

@@ -3,12 +3,12 @@ use Rattle.std.specs.Prelude.{option_map}
 use Rattle.req_tree.specs.Subject.{subject_of}
 use Rattle.policy_model.specs.History.{ask}
 use Rattle.assess.specs.Ask.{ask_of}
-use Rattle.desk_state.specs.Stands.{facts_of}
-use Rattle.desk_state.proofs.GoesOn.{stands_more, verdict_found, standing_answer}
+use Rattle.desk_state.specs.Stands.{plain, facts_of}
+use Rattle.desk_state.proofs.GoesOn.{verdict_found, standing_answer}
 use Rattle.desk_state.proofs.desk.Desk.ask.Goals as goal
 
 pub returns-in-None-clause-stands : goal.returns-in-None-clause-stands
-returns-in-None-clause-stands c = stands_more c.history_goes_on.ensures.tables c.history_goes_on.ensures.moment _ _ (ask (ask_of c.args.ask.now)) refl refl refl
+returns-in-None-clause-stands c = λ o h s. c.a_desk_goes_on_standing.ensures.quiet (plain c.args.self.now) o h (ask (ask_of c.args.ask.now)) refl s
 
 pub returns-in-Some-clause-verdict : goal.returns-in-Some-clause-verdict
 returns-in-Some-clause-verdict c =
@@ -20,4 +20,4 @@ returns-in-Some-clause-legal c = λ o h s.
     ∙ standing_answer c.args.self.now (ask_of c.args.ask.now) o h s
 
 pub returns-in-Some-clause-stands : goal.returns-in-Some-clause-stands
-returns-in-Some-clause-stands c = stands_more c.history_goes_on.ensures.tables c.history_goes_on.ensures.moment _ _ (ask (ask_of c.args.ask.now)) refl refl refl
+returns-in-Some-clause-stands c = λ o h s. c.a_desk_goes_on_standing.ensures.quiet (plain c.args.self.now) o h (ask (ask_of c.args.ask.now)) refl s

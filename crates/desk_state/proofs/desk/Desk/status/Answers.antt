@@ -1,7 +1,7 @@
 use Rattle.std.proofs.Common.{refl}
 use Rattle.policy_model.specs.History.{look}
-use Rattle.desk_state.proofs.GoesOn.{stands_more}
+use Rattle.desk_state.specs.Stands.{plain}
 use Rattle.desk_state.proofs.desk.Desk.status.Goals as goal
 
 pub returns-clause-stands : goal.returns-clause-stands
-returns-clause-stands c = stands_more c.history_goes_on.ensures.tables c.history_goes_on.ensures.moment _ _ look refl refl refl
+returns-clause-stands c = λ o h s. c.a_desk_goes_on_standing.ensures.quiet (plain c.args.self.now) o h look refl s

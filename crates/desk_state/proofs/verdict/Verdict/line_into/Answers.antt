@@ -1,31 +1,8 @@
-use Rattle.std.proofs.Common.{arith}
-use Rattle.std.proofs.lemmas.Grind.{common_steps}
-use Rattle.policy_model.specs.ReplyTexts.{verdict_text}
+use Rattle.std.proofs.Common.{sym}
+use Rattle.std.specs.Prelude.{option_map}
+use Rattle.object_model.specs.Origins.{fate_of}
+use Rattle.object_cache.specs.Offered.{offered_of}
 use Rattle.desk_state.proofs.verdict.Verdict.line_into.Goals as goal
 
 pub returns-clause-text : goal.returns-clause-text
-unfolding verdict_text
-returns-clause-text c =
-    rw (
-      c.push_all-11.ensures.text,
-      c.fate_word.ensures.word,
-      c.push_all-10.ensures.text,
-      c.push_all-9.ensures.text,
-      c.word.ensures.word,
-      c.push_all-8.ensures.text,
-      c.push_all-7.ensures.text,
-      c.override_word.ensures.word,
-      c.push_all-6.ensures.text,
-      c.push_word.ensures.text,
-      c.as_slice.ensures.bytes,
-      c.push_all-5.ensures.text,
-      c.number_into-2.ensures.text,
-      c.push_all-4.ensures.text,
-      c.number_into.ensures.text,
-      c.push_all-3.ensures.text,
-      c.push_number.ensures.text,
-      c.get.ensures.value,
-      c.push_all-2.ensures.text,
-      c.push_all.ensures.text,
-      c.accepted_word.ensures.word,
-    ) (grind (arith, common_steps))
+returns-clause-text c = c.line_with.ensures.text (fate_of (option_map offered_of c.args.offered)) (sym c.fate_word.ensures.word)

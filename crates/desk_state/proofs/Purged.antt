@@ -1,0 +1,109 @@
+-- What an edit leaves of the outcomes that are kept.
+use Rattle.std.proofs.Common.{◌≡◌, ℕ, ◌+◌, ◌≤◌, List, [], length, refl, sym, ap, ◌∙◌, subst, arith, Option, Some, None}
+use Rattle.std.specs.Prelude.{IsSome, false}
+use Rattle.std.proofs.lemmas.Bool.{both_ways}
+use Rattle.req_tree.specs.Facts.{Facts}
+use Rattle.policy_model.specs.Rules.{Row, Rank, Kind, execute, install, document}
+use Rattle.policy_model.specs.Contents.{Edit}
+use Rattle.policy_model.specs.Tables.{Tables, Receipt, Answer, Effect}
+use Rattle.policy_model.specs.Refusals.{refusal}
+use Rattle.policy_model.specs.Edits.{does, does_at, at_new, kept}
+use Rattle.policy_model.specs.History.{Opening, Counts}
+use Rattle.authority_table.specs.declared.prepared.Prepared.{Prepared}
+use Rattle.authority_table.specs.Prepared.{plan_touched}
+use Rattle.object_model.specs.Past.{count_of}
+use Rattle.object_model.specs.Purges.{first_touched, purged_counts}
+use Rattle.object_model.specs.Stands.{edited}
+use Rattle.object_model.specs.DropLaws.{MarksPurge}
+use Rattle.desk_state.specs.Plan.{Leaves}
+use Rattle.desk_state.proofs.GoesOn.{kept_same}
+use Rattle.desk_state.specs.Cache.{Cache, AreAtMost, purged_at, purged_as, edited_cache, IsPurged}
+
+-- bounds of the counts
+
+pub at_most_more : (n m : ℕ) (c : Counts) → n ≤ m → AreAtMost n c → AreAtMost m c
+at_most_more n m c le h = record { executes = omega (arith, le, h.executes); installs = omega (arith, le, h.installs); documents = omega (arith, le, h.documents) }
+
+pub count_at_most : (n : ℕ) (kind : Kind) (c : Counts) → AreAtMost n c → count_of kind c ≤ n
+count_at_most n execute c h = h.executes
+count_at_most n install c h = h.installs
+count_at_most n document c h = h.documents
+
+pub one_more_at_most : (n : ℕ) (kind : Kind) (f : Option Rank) (c : Counts) → AreAtMost n c → AreAtMost (n + 1) (purged_counts kind f c)
+one_more_at_most n kind None c h = at_most_more n (n + 1) c (omega arith) h
+one_more_at_most n execute (Some r) c h = record { executes = omega (arith, h.executes); installs = omega (arith, h.installs); documents = omega (arith, h.documents) }
+one_more_at_most n install (Some r) c h = record { executes = omega (arith, h.executes); installs = omega (arith, h.installs); documents = omega (arith, h.documents) }
+one_more_at_most n document (Some r) c h = record { executes = omega (arith, h.executes); installs = omega (arith, h.installs); documents = omega (arith, h.documents) }
+
+all_kinds : (n : ℕ) (f g k : Option Rank) (c : Counts) → AreAtMost n c → AreAtMost (n + 1) (purged_counts document k (purged_counts install g (purged_counts execute f c)))
+all_kinds n None None k c h = one_more_at_most n document k c h
+all_kinds n None (Some g) None c h = one_more_at_most n install (Some g) c h
+all_kinds n (Some f) None None c h = one_more_at_most n execute (Some f) c h
+all_kinds n None (Some g) (Some k) c h = record { executes = omega (arith, h.executes); installs = omega (arith, h.installs); documents = omega (arith, h.documents) }
+all_kinds n (Some f) None (Some k) c h = record { executes = omega (arith, h.executes); installs = omega (arith, h.installs); documents = omega (arith, h.documents) }
+all_kinds n (Some f) (Some g) None c h = record { executes = omega (arith, h.executes); installs = omega (arith, h.installs); documents = omega (arith, h.documents) }
+all_kinds n (Some f) (Some g) (Some k) c h = record { executes = omega (arith, h.executes); installs = omega (arith, h.installs); documents = omega (arith, h.documents) }
+
+-- a plan counts each kind at most once
+pub plan_at_most : (n : ℕ) (p : Option Prepared) (x : Cache) → AreAtMost n x.1 → AreAtMost (n + 1) (purged_as p x).1
+plan_at_most n None x h = at_most_more n (n + 1) x.1 (omega arith) h
+plan_at_most n (Some plan) x h = all_kinds n (plan_touched plan execute) (plan_touched plan install) (plan_touched plan document) x.1 h
+
+-- an edit that touches nothing leaves all
+pub untouched : MarksPurge → (x : Cache) → x ≡ edited_cache [] x
+untouched marks x = ap (λ c. (x.0, c)) (sym (marks [] x.1))
+
+-- a plan leaves what its edit makes
+by_ranks : (x : Cache) (f g k a b d : Option Rank) → f ≡ a → g ≡ b → k ≡ d → purged_at document k (purged_at install g (purged_at execute f x)) ≡ purged_at document d (purged_at install b (purged_at execute a x))
+by_ranks x f g k a b d p q r =
+    ap (λ y. purged_at document k (purged_at install g (purged_at execute y x))) p
+    ∙ ap (λ y. purged_at document k (purged_at install y (purged_at execute a x))) q
+    ∙ ap (λ y. purged_at document y (purged_at install b (purged_at execute a x))) r
+
+pub plan_purges : MarksPurge → (p : Option Prepared) (rows after touched : List Row) (x : Cache) → Leaves p rows after touched → purged_as p x ≡ edited_cache touched x
+plan_purges marks None rows after touched x h = untouched marks x ∙ ap (λ l. edited_cache l x) (sym h.1)
+plan_purges marks (Some plan) rows after touched x h =
+    by_ranks x (plan_touched plan execute) (plan_touched plan install) (plan_touched plan document) (first_touched execute touched) (first_touched install touched) (first_touched document touched) (h.first_in execute) (h.first_in install) (h.first_in document)
+    ∙ ap (λ c. ((edited_cache touched x).0, c)) (sym (marks touched x.1))
+
+-- an edit that is refused, or out of memory, leaves all
+refused_with : MarksPurge → (r : Option Answer) (e : Edit) (t : Tables) (x : Cache) → IsPurged (at_new r e t) x x r
+refused_with marks None e t x = refl
+refused_with marks (Some a) e t x = untouched marks x
+
+pub refused_purges : MarksPurge → (r : Option Answer) (e : Edit) (t : Tables) (x : Cache) → r ≡ refusal e.content t → IsPurged (at_new (refusal e.content t) e t) x x r
+refused_purges marks r e t x is = subst (λ y. IsPurged (at_new y e t) x x r) is (refused_with marks r e t x)
+
+-- one that is made leaves what it makes
+pub made_purges : (e : Edit) (t : Tables) (x y : Cache) (a : Answer) → refusal e.content t ≡ None → y ≡ edited_cache (at_new None e t).touched x → IsPurged (at_new (refusal e.content t) e t) x y (Some a)
+made_purges e t x y a accepted is = is ∙ ap (λ r. edited_cache (at_new r e t).touched x) (sym accepted)
+
+-- under a key that is kept all stays
+pub kept_purges : MarksPurge → (t : Tables) (e : Edit) (r : Receipt) (x : Cache) → Some r ≡ kept t.receipts e.key → x ≡ edited_cache (does t e).touched x
+kept_purges marks t e r x k = untouched marks x ∙ ap (λ o. edited_cache (does_at o e t).touched x) k
+
+pub kept_so : MarksPurge → (t : Tables) (e : Edit) (r : Receipt) (x : Cache) (g : Option Answer) → Some r ≡ kept t.receipts e.key → IsPurged (does t e) x x g
+kept_so marks t e r x None k = refl
+kept_so marks t e r x (Some a) k = kept_purges marks t e r x k
+
+pub new_so : (t : Tables) (e : Edit) (x y : Cache) (g : Option Answer) → None ≡ kept t.receipts e.key → IsPurged (at_new (refusal e.content t) e t) x y g → IsPurged (does t e) x y g
+new_so t e x y g k is = subst (λ d. IsPurged d x y g) (ap (λ o. does_at o e t) k) is
+
+-- a desk as plain data, part by part
+abbrev parts : Tables → Facts → ℕ → Cache → Opening
+parts t f n x = record { tables = t; facts = f; now = n; entries = x.0; counts = x.1 }
+
+parts_are : (t u : Tables) (f g : Facts) (n m : ℕ) (x y : Cache) → t ≡ u → f ≡ g → n ≡ m → x ≡ y → parts t f n x ≡ parts u g m y
+parts_are t u f g n m x y a b c d = ap (λ z. parts z f n x) a ∙ ap (λ z. parts u z n x) b ∙ ap (λ z. parts u g z x) c ∙ ap (λ z. parts u g m z) d
+
+answered_cache : (d : Effect) (x y : Cache) (g : Option Answer) → IsSome g → IsPurged d x y g → y ≡ edited_cache d.touched x
+answered_cache d x y None some is = absurd (both_ways false refl some)
+answered_cache d x y (Some a) some is = is
+
+-- an answered edit leaves the edited desk
+pub whole_edited : (old new : Opening) (e : Edit) (g : Option Answer) → IsSome g → new.tables ≡ (does old.tables e).tables → new.facts ≡ old.facts → new.now ≡ old.now → IsPurged (does old.tables e) (old.entries, old.counts) (new.entries, new.counts) g → new ≡ edited e old
+whole_edited old new e g some t f n x = parts_are new.tables (does old.tables e).tables new.facts old.facts new.now old.now (new.entries, new.counts) (edited_cache (does old.tables e).touched (old.entries, old.counts)) t f n (answered_cache (does old.tables e) (old.entries, old.counts) (new.entries, new.counts) g some x)
+
+-- under a key that is kept the desk is the edited one
+pub kept_whole : MarksPurge → (d : Opening) (e : Edit) (r : Receipt) → Some r ≡ kept d.tables.receipts e.key → d ≡ edited e d
+kept_whole marks d e r k = parts_are d.tables (does d.tables e).tables d.facts d.facts d.now d.now (d.entries, d.counts) (edited_cache (does d.tables e).touched (d.entries, d.counts)) (kept_same d.tables e r k) refl refl (kept_purges marks d.tables e r (d.entries, d.counts) k)
