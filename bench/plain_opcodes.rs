@@ -2,6 +2,8 @@
 //! docs/FORMATS.md and their order. It is what `bench/opcodes.sh` measures the proved library against, and it
 //! makes the requirements that both read.
 
+mod plain_texts;
+
 use std::env;
 use std::fs;
 use std::io;
@@ -472,6 +474,7 @@ fn write_inputs(folder: &Path) -> io::Result<()> {
         ("mixture-500", joined(560, alternative)),
         ("mixture-4k", joined(4096, alternative)),
         ("mixture-64k", joined(65536, alternative)),
+        ("text-64k", plain_texts::longest()),
         ("cdhashes-500", joined(512, |number| Req::CdHash(hash_of(number)))),
         ("cdhashes-4k", joined(4096, |number| Req::CdHash(hash_of(number)))),
         ("cdhashes-64k", joined(65536, |number| Req::CdHash(hash_of(number)))),
@@ -504,6 +507,8 @@ fn measure(bytes: &[u8], times: u64) -> (u128, u128) {
 
 /// `inputs FOLDER` writes the requirements there. `MEGABYTES FILE..` reads and writes each as often as makes
 /// so many megabytes, and prints its name, its bytes, how often, and the nanoseconds of reading and of writing.
+/// `texts MEGABYTES FILE..` prints each as text and reads that text, as often as makes so many megabytes of either, and
+/// prints its name, then of printing and of reading the bytes, how often, and the nanoseconds.
 fn main() -> io::Result<()> {
     let words: Vec<String> = env::args().skip(1).collect();
     let [first, rest @ ..] = words.as_slice() else {
@@ -511,6 +516,13 @@ fn main() -> io::Result<()> {
     };
     if first == "inputs" {
         return write_inputs(Path::new(&rest[0]));
+    }
+    if first == "texts" {
+        let megabytes: u64 = rest[0].parse().map_err(io::Error::other)?;
+        for name in &rest[1..] {
+            plain_texts::measure(name, &fs::read(name)?, megabytes);
+        }
+        return Ok(());
     }
     let megabytes: u64 = first.parse().map_err(io::Error::other)?;
     for name in rest {

@@ -2,6 +2,7 @@
 #![tactic(auto)]
 
 mod blobs;
+mod facts;
 mod lock;
 mod mutex;
 mod oids;
@@ -11,24 +12,31 @@ mod plan;
 mod requirements;
 mod signed;
 mod super_blobs;
+mod texts;
 mod turns;
 
 use std::{env, io};
 
-/// The words are `blobs`, `opcodes`, `pages` or `turns`, and what these take; or `each`, and the files that `opcodes` reads.
+/// The words are `blobs`, `facts`, `opcodes`, `pages`, `texts` or `turns`, and what these take; or `each`, and the files
+/// that `opcodes` and `texts` read.
 fn main(rt: HostRuntime) -> io::Result<()> {
     let part = env::args(&rt)?.nth(1);
     match part.as_ref().map(|word| word.as_str()) {
         Some("blobs") => blobs::measure(&rt),
+        Some("facts") => facts::measure(&rt),
         Some("opcodes") => opcodes::measure(&rt),
         Some("pages") => pages::measure(&rt),
+        Some("texts") => texts::measure(&rt),
         Some("turns") => turns::measure(&rt, rt.alloc()),
         Some("each") => {
             blobs::measure(&rt)?;
             opcodes::measure(&rt)?;
             pages::measure(&rt)?;
+            texts::measure(&rt)?;
             turns::measure(&rt, rt.alloc())
         }
-        _ => println!(rt; "usage: bench blobs|opcodes|pages|turns|each [TIMES] [time] [FILE ..]"),
+        _ => println!(rt;
+            "usage: bench blobs|facts|opcodes|pages|texts|turns|each [TIMES] [time] [FILE ..]"
+        ),
     }
 }
