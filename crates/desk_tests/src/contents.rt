@@ -247,6 +247,13 @@ fn bytes_from(first: u8) -> [u8; 128] {
     bytes
 }
 
+fn all_but_last(bytes: &[u8]) -> &[u8] {
+    match bytes.split_last() {
+        Some((_, front)) => front,
+        None => bytes,
+    }
+}
+
 // a label of any bytes is told from every other one
 fn labelled(alloc: Global, desk: &mut Desk) -> bool {
     let low = bytes_from(0);
@@ -267,7 +274,7 @@ fn labelled(alloc: Global, desk: &mut Desk) -> bool {
         alloc,
         desk,
         b"c",
-        remove(by_label(&low[..127], None)),
+        remove(by_label(all_but_last(&low), None)),
         b"refused edit 11 NoRule",
     ) && says(
         alloc,
