@@ -55,6 +55,25 @@ impl NewRule {
         })
     }
 
+    /// The same rule; it shares the requirement's tree.
+    pub fn copied(&self, alloc: Global) -> Result<NewRule, AllocError>
+        ensures { IfOk result (λ rule. new_row rule ≡ new_row self.now) }
+    {
+        let text = Bytes::copy_of(alloc, self.text.as_slice())?;
+        let tree = self.tree.share()?;
+        Ok(NewRule {
+            kind: self.kind,
+            allow: self.allow,
+            priority: self.priority,
+            expires: self.expires,
+            label: self.label.copied(),
+            is_default: self.is_default,
+            inhibit: self.inhibit,
+            text,
+            tree,
+        })
+    }
+
     /// Appends `add`, the kind, verdict, priority, expiry, label and flags, each with a space behind it.
     pub fn front_into(&self, out: &mut LineText)
         requires { length (line_bytes out.old) ≤ FRONT_LIMIT }
