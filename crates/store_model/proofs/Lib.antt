@@ -1,0 +1,7 @@
+mod RowLists
+mod Numbers
+mod Trees
+mod Changes
+mod Refusals
+mod Meaning
+mod Kept
