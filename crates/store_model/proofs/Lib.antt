@@ -5,3 +5,5 @@ mod Changes
 mod Refusals
 mod Meaning
 mod Kept
+mod WorkedBounds
+mod WorkedStores

@@ -9,7 +9,6 @@ use Rattle.req_tree.specs.Tree.{Tree}
 use Rattle.req_tree.specs.TreeCode.{tree_code}
 use Rattle.req_grammar.specs.Readings.{IsRequirementText}
 use Rattle.req_grammar.specs.Laws.{OneTree}
-use Rattle.policy_model.specs.declared.limits.TheConstants.{MOST_RULES, MOST_DISABLES}
 use Rattle.policy_model.specs.Rules.{Row, Kind}
 use Rattle.policy_model.specs.Tables.{Receipt, Tables}
 use Rattle.store_model.specs.declared.limits.TheConstants.{STORE_FORMAT}
@@ -17,7 +16,7 @@ use Rattle.store_model.specs.Raw.{RawReceipt, RawRule, RawTables}
 use Rattle.store_model.specs.Stored.{kind_number, bool_number, flags_number, raw_receipt, raw_rule, raw_of_tables, Holds}
 use Rattle.store_model.specs.Accepted.{IsStoredReceipt, AreNumbered, AcceptsReceipts, IsAdded, IsStoredRule, Accepts}
 use Rattle.store_model.specs.Laws.{RowsMeanOne, AcceptedRowsMeanSome, AcceptedRowsMeanKept}
-use Rattle.store_model.proofs.Numbers.{kind_back, bool_back, default_back, inhibit_back, kind_returns, bool_returns, default_returns, inhibit_returns, end_returns, not_below, within_not_below, bool_stays, kind_stays, flags_again, flags_stay, end_stays}
+use Rattle.store_model.proofs.Numbers.{kind_back, bool_back, default_back, inhibit_back, kind_returns, bool_returns, default_returns, inhibit_returns, end_returns, not_below, bool_stays, kind_stays, flags_again, flags_stay, end_stays}
 use Rattle.store_model.proofs.Trees.{HasTree}
 
 -- the rule of a stored row, with this tree
@@ -114,14 +113,14 @@ rule_stays receipts r tree above h =
     ap (λ i. rule_with r i k a d e f) (not_below r.id above)
     ∙ ap (λ x. rule_with r r.id x a d e f) (kind_stays r.kind h.kind)
     ∙ ap (λ x. rule_with r r.id r.kind x d e f) (bool_stays r.allow h.allow)
-    ∙ ap (λ x. rule_with r r.id r.kind r.allow x e f) (within_not_below MOST_DISABLES r.disabled h.disabled)
+    ∙ ap (λ x. rule_with r r.id r.kind r.allow x e f) (not_below r.disabled h.disabled.0)
     ∙ ap (λ x. rule_with r r.id r.kind r.allow r.disabled x f) (end_stays r.expires h.expires)
     ∙ ap (λ x. rule_with r r.id r.kind r.allow r.disabled r.expires x) (flags_stay r.flags h.flags)
 
 receipt_stays : (r : RawReceipt) → pos 0 ≤ℤ r.num → IsStoredReceipt r → raw_receipt (receipt_back r) ≡ r
 receipt_stays r above h =
     ap (λ n. record { num = n; key = r.key; content = r.content; rules = pos (unsigned_abs r.rules) }) (not_below r.num above)
-    ∙ ap (λ n. record { num = r.num; key = r.key; content = r.content; rules = n }) (within_not_below MOST_RULES r.rules h.rules)
+    ∙ ap (λ n. record { num = r.num; key = r.key; content = r.content; rules = n }) (not_below r.rules h.rules.0)
 
 numbers_above : (n : ℕ) (z : ℤ) → z ≡ pos n → pos 0 ≤ℤ z
 numbers_above n z e = grind (arith, ints, e)
