@@ -1,0 +1,5 @@
+mod Readings
+mod Labels
+mod Numbers
+mod Contents
+mod Histories
