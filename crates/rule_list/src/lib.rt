@@ -1,0 +1,8 @@
+//! The text of all rules, as an administrator reads it.
+#![tactic(auto)]
+
+mod list;
+mod row_text;
+mod word;
+
+pub use list::list_text;
