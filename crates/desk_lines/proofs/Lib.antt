@@ -1,2 +1,6 @@
+mod Places
+mod Opens
+mod Finishes
 mod AsksEdits
 mod OneLineMore
+mod Alone

@@ -2,17 +2,19 @@
 
 ghost use Rattle.std.specs.Prelude.{◌≡◌, Bool, ℕ};
 ghost use Rattle.session_model.specs.Lines as model;
-ghost use Rattle.session_model.specs.Lines.{lined, lined_at, tick_at, keep_at, ask_at, built_at, as_lined};
+ghost use Rattle.session_model.specs.Lines.{lined, lined_at, tick_at, keep_at, ask_at, begin_at, finish_at, slot_at, slot_word, as_lined};
+ghost use Rattle.policy_model.specs.Outcomes as policy;
 ghost use Rattle.line_model.specs.Edits.{edit_at};
-ghost use Rattle.line_words.specs.Left.{left, Gives};
+ghost use Rattle.line_words.specs.Left.{left, Gives, Takes};
 ghost use Rattle.assess.specs.Ask.{ask_of};
 ghost use Rattle.desk_lines.specs.Requests.{Tells};
 
 use assess::Ask;
 use authority_table::Moment;
 use line_text::{LINE_HELD, LINE_LIMIT};
-use line_words::{Cursor, LineFault};
+use line_words::{Cursor, LineFault, read_number};
 use rule_edits::{Edit, read_edit};
+use session_model::limits::{GREATEST_SLOT, SLOT_DIGITS};
 use std::alloc::Global;
 
 /// What a line asks for.
@@ -20,6 +22,8 @@ use std::alloc::Global;
 pub enum Request {
     Tick(Moment),
     Assess(Ask),
+    Begin(u32, Ask),
+    Finish(u32),
     Status,
     Edit(Edit),
 }
@@ -45,12 +49,14 @@ fn read_form(alloc: Global, words: &mut Cursor) -> Result<Request, LineFault>
     if form == b"tick".as_slice() {
         Ok(Request::Tick(read_tick(words)?))
     } else if form == b"assess".as_slice() {
-        Ok(Request::Assess(read_built_ask(words)?))
+        Ok(Request::Assess(read_ask(words)?))
+    } else if form == b"begin".as_slice() {
+        read_begin(words)
+    } else if form == b"finish".as_slice() {
+        Ok(Request::Finish(read_finish(words)?))
     } else if form == b"status".as_slice() {
         words.end()?;
         Ok(Request::Status)
-    } else if is_later(form) {
-        Err(LineFault::NotBuilt)
     } else {
         read_other(alloc, form, words)
     }
@@ -66,13 +72,6 @@ fn read_other(alloc: Global, form: &[u8], words: &mut Cursor) -> Result<Request,
     }
 }
 
-/// The first word of a form that isn't built yet.
-fn is_later(word: &[u8]) -> bool
-    ensures { result ≡ model.is_later word.now }
-{
-    word == b"begin".as_slice() || word == b"finish".as_slice()
-}
-
 /// MOMENT
 fn read_tick(words: &mut Cursor) -> Result<Moment, LineFault>
     ensures { Gives (λ (moment : ℕ). moment) result (tick_at (left words.old)) }
@@ -82,15 +81,41 @@ fn read_tick(words: &mut Cursor) -> Result<Moment, LineFault>
     Ok(at)
 }
 
-/// An ask; so far none that forbids to keep its outcome.
-fn read_built_ask(words: &mut Cursor) -> Result<Ask, LineFault>
-    ensures { Gives ask_of result (built_at (left words.old)) }
+/// N, KIND, the subject, and `nocache` or nothing
+fn read_begin(words: &mut Cursor) -> Result<Request, LineFault>
+    ensures { Tells result (as_lined (λ (slot : ℕ × policy.Ask). model.asks (model.begin slot.0 slot.1)) (begin_at (left words.old))) }
 {
+    let number = read_slot(words)?;
     let ask = read_ask(words)?;
-    if ask.keep {
-        Ok(ask)
+    Ok(Request::Begin(number, ask))
+}
+
+/// N
+fn read_finish(words: &mut Cursor) -> Result<u32, LineFault>
+    ensures { Gives (λ (n : ℕ). n) result (finish_at (left words.old)) }
+{
+    let number = read_slot(words)?;
+    words.end()?;
+    Ok(number)
+}
+
+/// The next word as the number of a begun assessment.
+fn read_slot(words: &mut Cursor) -> Result<u32, LineFault>
+    ensures { Takes (λ (n : ℕ). n) (left words.new) result (slot_at (left words.old)) }
+{
+    let column = words.column();
+    slot_number(words.next()?).ok_or(LineFault::BadLine { column })
+}
+
+/// The number of a begun assessment.
+fn slot_number(word: &[u8]) -> Option<u32>
+    ensures { result ≡ slot_word word.now }
+{
+    let number = read_number(word, SLOT_DIGITS, GREATEST_SLOT)?;
+    if number == 0 {
+        None
     } else {
-        Err(LineFault::NotBuilt)
+        Some(number as u32)
     }
 }
 

@@ -9,7 +9,7 @@ use Rattle.req_grammar.specs.Readings.{IsRequirementText}
 use Rattle.policy_model.specs.Texts.{places, add_front, content_text}
 use Rattle.policy_model.specs.History.{fresh}
 use Rattle.policy_model.specs.ReplyTexts.{verdict_text}
-use Rattle.line_model.specs.LineFaults.{LineFault, bad_line, bad_moment, bad_label, bad_key, not_built}
+use Rattle.line_model.specs.LineFaults.{LineFault, bad_line, bad_moment, bad_label, bad_key}
 use Rattle.session_model.specs.Lines.{lined}
 use Rattle.session_model.specs.Session as session
 use Rattle.session_model.specs.Session.{begun}
@@ -32,28 +32,62 @@ assess_line = codes "assess execute " ++ ones ++ codes " com.example.app 0"
 one_rule : IsRequirementText (codes "always") always → Answers
     (codes "tick 100" ∷ codes "add k1 execute allow 0 never - - always" ∷ assess_line ∷ [])
     (codes "now=100" ∷ codes "ok edit=1 rules=1"
-    ∷ codes "accepted at=100 rule=1 latent=none label=- override=none source=rules cache=off" ∷ [])
+    ∷ codes "accepted at=100 rule=1 latent=none label=- override=none source=rules cache=kept" ∷ [])
 unfolding digits decode_pairs places add_front content_text verdict_text status_line
 one_rule says = (_, (_, _, refl, (refl, refl), (_, _, (_, (Ok always, says, refl), refl), (refl, refl), (_, _, refl, (refl, refl), refl))))
 
 -- of two rules of one priority the older decides
 tie : IsRequirementText (codes "always") always → Answers
-    (codes "add a execute deny 5 never - - always" ∷ codes "add b execute allow 5 never - - always" ∷ assess_line ∷ [])
+    (codes "add a execute deny 5 never first - always" ∷ codes "add b execute allow 5 never second - always"
+    ∷ assess_line ∷ [])
     (codes "ok edit=1 rules=1" ∷ codes "ok edit=2 rules=1"
-    ∷ codes "rejected at=0 rule=1 latent=none label=- override=none source=rules cache=off" ∷ [])
+    ∷ codes "rejected at=0 rule=1 latent=none label=first override=none source=rules cache=kept" ∷ [])
 unfolding digits decode_pairs places add_front content_text verdict_text status_line
 tie says = (_, (_, _, (_, (Ok always, says, refl), refl), (refl, refl), (_, _, (_, (Ok always, says, refl), refl), (refl, refl), (_, _, refl, (refl, refl), refl))))
 
--- a moment that doesn't step back, and a rule at whose end nothing governs
-expired : IsRequirementText (codes "cdhash H" ++ 34 ∷ ones ++ 34 ∷ []) (cd_hash (replicate 20 17)) → Answers
-    (codes "status" ∷ (codes "add a execute allow 0 100 - - cdhash H" ++ 34 ∷ ones ++ 34 ∷ []) ∷ codes "tick 100"
-    ∷ codes "tick 7" ∷ assess_line ∷ codes "status" ∷ [])
-    (codes "status assessments=enabled rules=0 receipts=0 objects=0 now=0" ∷ codes "ok edit=1 rules=1"
-    ∷ codes "now=100" ∷ codes "now=100"
-    ∷ codes "rejected at=100 rule=none latent=none label=no%20matching%20rule override=none source=rules cache=off"
-    ∷ codes "status assessments=enabled rules=1 receipts=1 objects=0 now=100" ∷ [])
+-- an edit of a rule that is tried before moves the outcome of what was begun
+overtaken : IsRequirementText (codes "always") always → Answers
+    (codes "add lo execute allow 1 never - - always"
+    ∷ (codes "begin 1 execute " ++ ones ++ codes " com.example.app 0")
+    ∷ codes "add hi execute deny 9 never - - always" ∷ codes "finish 1" ∷ assess_line ∷ [])
+    (codes "ok edit=1 rules=1" ∷ codes "begun 1 at=0" ∷ codes "ok edit=2 rules=1"
+    ∷ codes "accepted at=0 rule=1 latent=none label=- override=none source=rules cache=moved"
+    ∷ codes "rejected at=0 rule=2 latent=none label=- override=none source=rules cache=kept" ∷ [])
 unfolding digits decode_pairs places add_front content_text verdict_text status_line
-expired says = (_, (_, _, refl, (refl, refl), (_, _, (_, (Ok (cd_hash (replicate 20 17)), says, refl), refl), (refl, refl), (_, _, refl, (refl, refl), (_, _, refl, (refl, refl), (_, _, refl, (refl, refl), (_, _, refl, (refl, refl), refl)))))))
+overtaken says = (_, (_, _, (_, (Ok always, says, refl), refl), (refl, refl), (_, _, refl, (refl, refl), (_, _, (_, (Ok always, says, refl), refl), (refl, refl), (_, _, refl, (refl, refl), (_, _, refl, (refl, refl), refl))))))
+
+-- with no late edit allowed, any edit of the kind moves it
+overtaken_behind : IsRequirementText (codes "always") always → Answers
+    (codes "add lo execute allow 9 never - - always"
+    ∷ (codes "begin 1 execute " ++ ones ++ codes " com.example.app 0")
+    ∷ codes "add hi execute deny 1 never - - always" ∷ codes "finish 1" ∷ assess_line ∷ [])
+    (codes "ok edit=1 rules=1" ∷ codes "begun 1 at=0" ∷ codes "ok edit=2 rules=1"
+    ∷ codes "accepted at=0 rule=1 latent=none label=- override=none source=rules cache=moved"
+    ∷ codes "accepted at=0 rule=1 latent=none label=- override=none source=rules cache=kept" ∷ [])
+unfolding digits decode_pairs places add_front content_text verdict_text status_line
+overtaken_behind says = (_, (_, _, (_, (Ok always, says, refl), refl), (refl, refl), (_, _, refl, (refl, refl), (_, _, (_, (Ok always, says, refl), refl), (refl, refl), (_, _, refl, (refl, refl), (_, _, refl, (refl, refl), refl))))))
+
+-- an outcome is kept up to the end of its rule
+until_its_end : IsRequirementText (codes "always") always → Answers
+    (codes "add a execute allow 9 100 - - always" ∷ codes "add b execute deny 1 never - - always" ∷ codes "tick 98"
+    ∷ assess_line ∷ codes "tick 99" ∷ assess_line ∷ codes "tick 100" ∷ assess_line ∷ [])
+    (codes "ok edit=1 rules=1" ∷ codes "ok edit=2 rules=1" ∷ codes "now=98"
+    ∷ codes "accepted at=98 rule=1 latent=none label=- override=none source=rules cache=kept" ∷ codes "now=99"
+    ∷ codes "accepted at=99 rule=1 latent=none label=- override=none source=cache cache=none" ∷ codes "now=100"
+    ∷ codes "rejected at=100 rule=2 latent=none label=- override=none source=rules cache=kept" ∷ [])
+unfolding digits decode_pairs places add_front content_text verdict_text status_line
+until_its_end says = (_, (_, _, (_, (Ok always, says, refl), refl), (refl, refl), (_, _, (_, (Ok always, says, refl), refl), (refl, refl), (_, _, refl, (refl, refl), (_, _, refl, (refl, refl), (_, _, refl, (refl, refl), (_, _, refl, (refl, refl), (_, _, refl, (refl, refl), (_, _, refl, (refl, refl), refl)))))))))
+
+-- a default is kept for 60 seconds
+a_default_for_a_minute : Answers
+    (codes "tick 200" ∷ codes "tick 100" ∷ assess_line ∷ codes "tick 259" ∷ codes "status" ∷ codes "tick 260"
+    ∷ codes "status" ∷ [])
+    (codes "now=200" ∷ codes "now=200"
+    ∷ codes "rejected at=200 rule=none latent=none label=no%20matching%20rule override=none source=rules cache=kept"
+    ∷ codes "now=259" ∷ codes "status assessments=enabled rules=0 receipts=0 objects=1 now=259" ∷ codes "now=260"
+    ∷ codes "status assessments=enabled rules=0 receipts=0 objects=0 now=260" ∷ [])
+unfolding digits decode_pairs places add_front content_text verdict_text status_line
+a_default_for_a_minute = (_, (_, _, refl, (refl, refl), (_, _, refl, (refl, refl), (_, _, refl, (refl, refl), (_, _, refl, (refl, refl), (_, _, refl, (refl, refl), (_, _, refl, (refl, refl), (_, _, refl, (refl, refl), refl))))))))
 
 -- a key acts once, and an edit needs a rule
 repeats : IsRequirementText (codes "always") always → Answers
@@ -66,87 +100,65 @@ repeats : IsRequirementText (codes "always") always → Answers
 unfolding digits decode_pairs places add_front content_text verdict_text status_line
 repeats says = (_, (_, _, (_, refl, refl), (refl, refl), (_, _, (_, (Ok always, says, refl), refl), (refl, refl), (_, _, (_, (Ok always, says, refl), refl), (refl, refl), (_, _, (_, (Ok always, says, refl), refl), (refl, refl), (_, _, refl, (refl, refl), refl))))))
 
--- the same content in two spellings is one
-spelt_twice : IsRequirementText (codes "always") always → Answers
-    (codes "add k execute allow -0.50 0100 %54ool default always"
-    ∷ codes "add k execute allow -00.5 100 Tool default always" ∷ codes "expire e id 000001 any 0007"
-    ∷ codes "expire e id 1 any 7" ∷ codes "expire e id 1 any 8" ∷ [])
-    (codes "ok edit=1 rules=1" ∷ codes "repeated edit=1 rules=1" ∷ codes "ok edit=2 rules=1"
-    ∷ codes "repeated edit=2 rules=1" ∷ codes "refused edit 12 KeyReused edit=2 rules=1" ∷ [])
-unfolding digits decode_pairs places add_front content_text verdict_text status_line
-spelt_twice says = (_, (_, _, (_, (Ok always, says, refl), refl), (refl, refl), (_, _, (_, (Ok always, says, refl), refl), (refl, refl), (_, _, (_, refl, refl), (refl, refl), (_, _, (_, refl, refl), (refl, refl), (_, _, (_, refl, refl), (refl, refl), refl))))))
-
--- a label with a space, both flags, and a fraction in the priority, which decides
-labelled : IsRequirementText (codes "always") always → Answers
-    (codes "add a execute deny 0.25 never Old%20name - always"
-    ∷ codes "add b execute allow 0.3 never New%20name default+inhibit always" ∷ assess_line ∷ [])
-    (codes "ok edit=1 rules=1" ∷ codes "ok edit=2 rules=1"
-    ∷ codes "accepted at=0 rule=2 latent=none label=New%20name override=none source=rules cache=off" ∷ [])
-unfolding digits decode_pairs places add_front content_text verdict_text status_line
-labelled says = (_, (_, _, (_, (Ok always, says, refl), refl), (refl, refl), (_, _, (_, (Ok always, says, refl), refl), (refl, refl), (_, _, refl, (refl, refl), refl))))
-
--- unsigned code meets no rule
-unsigned : IsRequirementText (codes "always") always → Answers
-    (codes "add a execute allow 0 never - - always" ∷ codes "assess execute unsigned" ∷ [])
-    (codes "ok edit=1 rules=1"
-    ∷ codes "rejected at=0 rule=none latent=none label=no%20usable%20signature override=none source=unsigned cache=none"
-    ∷ [])
-unfolding digits decode_pairs places add_front content_text verdict_text status_line
-unsigned says = (_, (_, _, (_, (Ok always, says, refl), refl), (refl, refl), (_, _, refl, (refl, refl), refl)))
-
--- a denial is overridden while assessments are switched off, and the rule is named
+-- the switch drops nothing: what is kept is the outcome before the override
 switched : IsRequirementText (codes "always") always → Answers
-    (codes "add d execute deny 0 never Blocked - always" ∷ codes "switch s1 off" ∷ assess_line ∷ codes "status"
-    ∷ codes "switch s2 on" ∷ assess_line ∷ [])
+    (codes "add d execute deny 0 never Blocked - always" ∷ codes "switch s1 off" ∷ assess_line ∷ codes "switch s2 on"
+    ∷ assess_line ∷ [])
     (codes "ok edit=1 rules=1" ∷ codes "ok edit=2 rules=0"
-    ∷ codes "accepted at=0 rule=1 latent=none label=Blocked override=security%20disabled source=rules cache=off"
-    ∷ codes "status assessments=disabled rules=1 receipts=2 objects=0 now=0" ∷ codes "ok edit=3 rules=0"
-    ∷ codes "rejected at=0 rule=1 latent=none label=Blocked override=none source=rules cache=off" ∷ [])
+    ∷ codes "accepted at=0 rule=1 latent=none label=Blocked override=security%20disabled source=rules cache=kept"
+    ∷ codes "ok edit=3 rules=0"
+    ∷ codes "rejected at=0 rule=1 latent=none label=Blocked override=none source=cache cache=none" ∷ [])
 unfolding digits decode_pairs places add_front content_text verdict_text status_line
-switched says = (_, (_, _, (_, (Ok always, says, refl), refl), (refl, refl), (_, _, (_, refl, refl), (refl, refl), (_, _, refl, (refl, refl), (_, _, refl, (refl, refl), (_, _, (_, refl, refl), (refl, refl), (_, _, refl, (refl, refl), refl)))))))
+switched says = (_, (_, _, (_, (Ok always, says, refl), refl), (refl, refl), (_, _, (_, refl, refl), (refl, refl), (_, _, refl, (refl, refl), (_, _, (_, refl, refl), (refl, refl), (_, _, refl, (refl, refl), refl))))))
 
 -- a disabled rule is latent, by its number and by its label
 disabled : IsRequirementText (codes "always") always → Answers
     (codes "add a execute allow 0 never Dev%20ID - always" ∷ codes "disable b id 1 execute" ∷ assess_line
     ∷ codes "enable c label Dev%20ID any" ∷ assess_line ∷ [])
     (codes "ok edit=1 rules=1" ∷ codes "ok edit=2 rules=1"
-    ∷ codes "rejected at=0 rule=none latent=1 label=Dev%20ID override=none source=rules cache=off"
+    ∷ codes "rejected at=0 rule=none latent=1 label=Dev%20ID override=none source=rules cache=kept"
     ∷ codes "ok edit=3 rules=1"
-    ∷ codes "accepted at=0 rule=1 latent=none label=Dev%20ID override=none source=rules cache=off" ∷ [])
+    ∷ codes "accepted at=0 rule=1 latent=none label=Dev%20ID override=none source=rules cache=kept" ∷ [])
 unfolding digits decode_pairs places add_front content_text verdict_text status_line
 disabled says = (_, (_, _, (_, (Ok always, says, refl), refl), (refl, refl), (_, _, (_, refl, refl), (refl, refl), (_, _, refl, (refl, refl), (_, _, (_, refl, refl), (refl, refl), (_, _, refl, (refl, refl), refl))))))
 
--- a count goes up by each disabling and to 0 at once
-counted : IsRequirementText (codes "always") always → Answers
-    (codes "add a execute allow 0 never - - always" ∷ codes "disable b id 1 any" ∷ codes "disable c id 1 any"
-    ∷ codes "enable d id 1 any" ∷ assess_line ∷ codes "disable e id 1 install" ∷ [])
-    (codes "ok edit=1 rules=1" ∷ codes "ok edit=2 rules=1" ∷ codes "ok edit=3 rules=1" ∷ codes "ok edit=4 rules=1"
-    ∷ codes "accepted at=0 rule=1 latent=none label=- override=none source=rules cache=off"
-    ∷ codes "refused edit 11 NoRule" ∷ [])
+-- of two that are begun the first is kept
+twice : Answers
+    ((codes "begin 1 execute " ++ ones ++ codes " com.example.app 0")
+    ∷ (codes "begin 2 execute " ++ ones ++ codes " com.example.app 0") ∷ codes "finish 1" ∷ codes "finish 2"
+    ∷ (codes "assess install " ++ ones ++ codes " com.example.app 0 nocache") ∷ [])
+    (codes "begun 1 at=0" ∷ codes "begun 2 at=0"
+    ∷ codes "rejected at=0 rule=none latent=none label=no%20matching%20rule override=none source=rules cache=kept"
+    ∷ codes "rejected at=0 rule=none latent=none label=no%20matching%20rule override=none source=rules cache=twice"
+    ∷ codes "rejected at=0 rule=none latent=none label=no%20matching%20rule override=none source=rules cache=inhibited"
+    ∷ [])
 unfolding digits decode_pairs places add_front content_text verdict_text status_line
-counted says = (_, (_, _, (_, (Ok always, says, refl), refl), (refl, refl), (_, _, (_, refl, refl), (refl, refl), (_, _, (_, refl, refl), (refl, refl), (_, _, (_, refl, refl), (refl, refl), (_, _, refl, (refl, refl), (_, _, (_, refl, refl), (refl, refl), refl)))))))
+twice = (_, (_, _, refl, (refl, refl), (_, _, refl, (refl, refl), (_, _, refl, (refl, refl), (_, _, refl, (refl, refl), (_, _, refl, (refl, refl), refl))))))
 
--- an edit touches rules of three kinds at once, or of one
-of_three_kinds : IsRequirementText (codes "always") always → Answers
-    (codes "add a execute allow 0 never T - always" ∷ codes "add b install allow 0 never T - always"
-    ∷ codes "add c open allow 0 never T - always" ∷ codes "disable d label T any" ∷ codes "enable e label T open"
-    ∷ codes "remove f label T execute" ∷ codes "remove g label T execute" ∷ codes "expire h label T any 9"
-    ∷ codes "status" ∷ [])
-    (codes "ok edit=1 rules=1" ∷ codes "ok edit=2 rules=1" ∷ codes "ok edit=3 rules=1" ∷ codes "ok edit=4 rules=3"
-    ∷ codes "ok edit=5 rules=1" ∷ codes "ok edit=6 rules=1" ∷ codes "refused edit 11 NoRule"
-    ∷ codes "ok edit=7 rules=2" ∷ codes "status assessments=enabled rules=2 receipts=7 objects=0 now=0" ∷ [])
+-- a number is begun once, and finished once
+numbers : Answers
+    (codes "begin 1 execute unsigned" ∷ codes "begin 001 execute unsigned" ∷ codes "finish 2" ∷ codes "finish 01"
+    ∷ codes "finish 1" ∷ codes "assess execute" ∷ codes "tick  5" ∷ [])
+    (codes "begun 1 at=0" ∷ codes "refused session 21 SlotBusy" ∷ codes "refused session 22 SlotEmpty"
+    ∷ codes "rejected at=0 rule=none latent=none label=no%20usable%20signature override=none source=unsigned cache=none"
+    ∷ codes "refused session 22 SlotEmpty" ∷ codes "refused line 1 BadLine column=15"
+    ∷ codes "refused line 4 BadMoment" ∷ [])
 unfolding digits decode_pairs places add_front content_text verdict_text status_line
-of_three_kinds says = (_, (_, _, (_, (Ok always, says, refl), refl), (refl, refl), (_, _, (_, (Ok always, says, refl), refl), (refl, refl), (_, _, (_, (Ok always, says, refl), refl), (refl, refl), (_, _, (_, refl, refl), (refl, refl), (_, _, (_, refl, refl), (refl, refl), (_, _, (_, refl, refl), (refl, refl), (_, _, (_, refl, refl), (refl, refl), (_, _, (_, refl, refl), (refl, refl), (_, _, refl, (refl, refl), refl))))))))))
+numbers = (_, (_, _, refl, (refl, refl), (_, _, refl, (refl, refl), (_, _, refl, (refl, refl), (_, _, refl, (refl, refl), (_, _, refl, (refl, refl), (_, _, refl, (refl, refl), (_, _, refl, (refl, refl), refl))))))))
 
--- a line that is refused changes nothing
-bad_lines : Answers
-    (codes "assess execute" ∷ codes "tick  5" ∷ codes "begin 1 execute unsigned"
-    ∷ codes "assess execute unsigned nocache" ∷ codes "switch k maybe" ∷ codes "status" ∷ [])
-    (codes "refused line 1 BadLine column=15" ∷ codes "refused line 4 BadMoment" ∷ codes "refused line 8 NotBuilt"
-    ∷ codes "refused line 8 NotBuilt" ∷ codes "refused line 1 BadLine column=10"
-    ∷ codes "status assessments=enabled rules=0 receipts=0 objects=0 now=0" ∷ [])
+-- what the cache answered at its beginning stays so, whatever happened since
+known_when_begun : IsRequirementText (codes "always") always → Answers
+    (codes "add a execute allow 0 never - - always" ∷ assess_line
+    ∷ (codes "begin 1 execute " ++ ones ++ codes " com.example.app 0") ∷ codes "remove r id 1 any" ∷ codes "finish 1"
+    ∷ assess_line ∷ [])
+    (codes "ok edit=1 rules=1"
+    ∷ codes "accepted at=0 rule=1 latent=none label=- override=none source=rules cache=kept" ∷ codes "begun 1 at=0"
+    ∷ codes "ok edit=2 rules=1"
+    ∷ codes "accepted at=0 rule=1 latent=none label=- override=none source=cache cache=none"
+    ∷ codes "rejected at=0 rule=none latent=none label=no%20matching%20rule override=none source=rules cache=kept"
+    ∷ [])
 unfolding digits decode_pairs places add_front content_text verdict_text status_line
-bad_lines = (_, (_, _, refl, (refl, refl), (_, _, refl, (refl, refl), (_, _, refl, (refl, refl), (_, _, refl, (refl, refl), (_, _, refl, (refl, refl), (_, _, refl, (refl, refl), refl)))))))
+known_when_begun says = (_, (_, _, (_, (Ok always, says, refl), refl), (refl, refl), (_, _, refl, (refl, refl), (_, _, refl, (refl, refl), (_, _, (_, refl, refl), (refl, refl), (_, _, refl, (refl, refl), (_, _, refl, (refl, refl), refl)))))))
 
 no_lines : Answers [] []
 no_lines = (_, refl)
@@ -190,8 +202,8 @@ an_empty_line = refl
 no_form : Refused (codes "list") (bad_line 1)
 no_form = refl
 
-a_later_form : Refused (codes "finish 1") not_built
-a_later_form = refl
+no_number : Refused (codes "finish 0") (bad_line 8)
+no_number = refl
 
 a_word_behind_nocache : Refused (codes "assess execute unsigned nocache 0") (bad_line 33)
 a_word_behind_nocache = refl

@@ -1,8 +1,10 @@
 -- What a session's line asks for. This project's own.
-use Rattle.std.specs.Prelude.{◌≡◌, ℕ, List, [], ◌∷◌, Bool, true, false, ◌||◌, Option, Some, None, Result, Ok, Err, if◌then◌else◌, codes, bytes_eq}
+use Rattle.std.specs.Prelude.{◌≡◌, ℕ, List, [], ◌∷◌, Bool, true, false, Option, Some, None, Result, Ok, Err, if◌then◌else◌, codes, bytes_eq}
 use Rattle.policy_model.specs.Outcomes.{Ask}
 use Rattle.policy_model.specs.Contents.{Edit}
-use Rattle.line_model.specs.LineFaults.{LineFault, not_built}
+use Rattle.line_model.specs.LineFaults.{LineFault}
+use Rattle.line_model.specs.Words.{number_word, from_one}
+use Rattle.session_model.specs.declared.limits.TheConstants.{SLOT_DIGITS, GREATEST_SLOT}
 use Rattle.line_model.specs.Left.{Left, ◌>>=◌, word_at, value_at, misfit, end_at}
 use Rattle.line_model.specs.Forms.{moment_at, kind_at}
 use Rattle.line_model.specs.Subjects.{subject_at}
@@ -12,6 +14,10 @@ use Rattle.line_model.specs.Edits.{Edited, edit_at, IsEdit, by_words}
 pub data Request : Type 0 where
   tick : ℕ → Request
   assess : Ask → Request
+  -- an assessment begins under a number
+  begin : ℕ → Ask → Request
+  -- the one of that number is finished
+  finish : ℕ → Request
   status : Request
   edit : Edit → Request
 
@@ -46,19 +52,27 @@ ask_at left = do
   keep ← keep_at subject.1
   Ok (record { kind = kind.0; subject = subject.0; keep = keep })
 
--- an ask; so far none that forbids to keep its outcome
-abbrev pub built : Ask → Result Ask LineFault
-built a = if a.keep then Ok a else Err not_built
+-- the number under which an assessment is begun
+abbrev pub slot_word : List ℕ → Option ℕ
+slot_word word = from_one (number_word SLOT_DIGITS GREATEST_SLOT word)
 
--- KIND and the subject; so far nothing behind them
-abbrev pub built_at : Left → Result Ask LineFault
-built_at left = do
-  ask ← ask_at left
-  built ask
+-- the same in its place
+abbrev pub slot_at : Left → Result (ℕ × Left) LineFault
+slot_at left = value_at slot_word (misfit left) left
 
--- the first word of a form that isn't built yet
-abbrev pub is_later : List ℕ → Bool
-is_later word = bytes_eq word (codes "begin") || bytes_eq word (codes "finish")
+-- N, KIND, the subject, and nocache or nothing
+abbrev pub begin_at : Left → Result (ℕ × Ask) LineFault
+begin_at left = do
+  slot ← slot_at left
+  ask ← ask_at slot.1
+  Ok (slot.0, ask)
+
+-- N
+abbrev pub finish_at : Left → Result ℕ LineFault
+finish_at left = do
+  slot ← slot_at left
+  end ← end_at slot.1
+  Ok slot.0
 
 -- what a line asks for, before the requirement in it is read
 pub data Lined : Type 0 where
@@ -75,9 +89,10 @@ as_lined lined read = do
 abbrev pub form_at : List ℕ → Left → Result Lined LineFault
 form_at word left =
     if bytes_eq word (codes "tick") then as_lined (λ m. asks (tick m)) (tick_at left)
-    else if bytes_eq word (codes "assess") then as_lined (λ a. asks (assess a)) (built_at left)
+    else if bytes_eq word (codes "assess") then as_lined (λ a. asks (assess a)) (ask_at left)
+    else if bytes_eq word (codes "begin") then as_lined (λ (slot : ℕ × Ask). asks (begin slot.0 slot.1)) (begin_at left)
+    else if bytes_eq word (codes "finish") then as_lined (λ n. asks (finish n)) (finish_at left)
     else if bytes_eq word (codes "status") then as_lined (λ (end : Left). asks status) (end_at left)
-    else if is_later word then Err not_built
     else as_lined edits (edit_at word left)
 
 -- a line by its first word

@@ -1,31 +1,35 @@
 -- What a session is: lines, the reply to each, and the state that they lead to. This project's own.
 use Rattle.std.specs.Prelude.{◌≡◌, List, [], ◌∷◌, ◌++◌, length, ℕ, Result, Ok, Err}
-use Rattle.policy_model.specs.History.{Event, Opening, tables_of, now_of, ask_answer, edit_answer}
+use Rattle.std.specs.List.{find}
+use Rattle.policy_model.specs.History.{Event, Opening, tables_of, now_of, edit_answer}
 use Rattle.policy_model.specs.History as event
+use Rattle.policy_model.specs.ReplyTexts.{now_text, answer_text}
 use Rattle.object_model.specs.Kept.{objects_of}
-use Rattle.policy_model.specs.ReplyTexts.{now_text, verdict_text, origin_on, fate_on, answer_text}
 use Rattle.line_model.specs.LineFaults.{LineFault, line_fault_text}
-use Rattle.session_model.specs.Lines.{Request, tick, assess, status, edit, IsAsked}
+use Rattle.session_model.specs.Lines.{Request, tick, assess, begin, finish, status, edit, IsAsked}
+use Rattle.session_model.specs.Slots.{State, Answered, has_number, finished, begins, finishes}
 use Rattle.session_model.specs.StatusText.{status_text}
 
--- where a session stands: what has happened on the desk
-pub record State : Type 0 where
-  pub history : List Event
-
--- nothing has happened
+-- nothing has happened, and nothing is begun
 abbrev pub begun : State
-begun = record { history = [] }
+begun = record { history = []; slots = [] }
 
--- the state after one more event
-abbrev pub happens : Event → State → State
-happens e s = record { history = s.history ++ e ∷ [] }
+-- after one more event, with a reply
+abbrev pub happens : Event → List ℕ → State → Answered
+happens e reply s = record { reply = reply; after = record { history = s.history ++ e ∷ []; slots = s.slots } }
 
--- from the opening o and the state s on: the reply to what a line asks for, or to its fault, and the state after it
+-- from the opening o and the state s on: the reply to what a line asks for, and the state after it
+abbrev pub answered : Opening → State → Request → Answered
+answered o s (tick m) = happens (event.tick m) (now_text (now_of o (s.history ++ event.tick m ∷ []))) s
+answered o s (assess a) = finished o (s.history ++ event.ask a ∷ []) (length s.history) a s.slots
+answered o s (begin n a) = begins o s n a
+answered o s (finish n) = finishes o s n (find (has_number n) s.slots)
+answered o s status = happens event.look (status_text (tables_of o s.history) (length (objects_of o s.history)) (now_of o s.history)) s
+answered o s (edit e) = happens (event.edit e) (answer_text (edit_answer o s.history e)) s
+
+-- the reply to what a line asks for, or to its fault, and the state after it
 abbrev pub Replies : Opening → State → Result Request LineFault → List ℕ → State → Type 0
-Replies o s (Ok (tick m)) reply after = (after ≡ happens (event.tick m) s) × (reply ≡ now_text (now_of o after.history))
-Replies o s (Ok (assess a)) reply after = (after ≡ happens (event.ask a) s) × (reply ≡ verdict_text (ask_answer o s.history a) (origin_on a.subject) (fate_on a.subject))
-Replies o s (Ok status) reply after = (after ≡ happens event.look s) × (reply ≡ status_text (tables_of o s.history) (length (objects_of o s.history)) (now_of o s.history))
-Replies o s (Ok (edit e)) reply after = (after ≡ happens (event.edit e) s) × (reply ≡ answer_text (edit_answer o s.history e))
+Replies o s (Ok request) reply after = (after ≡ (answered o s request).after) × (reply ≡ (answered o s request).reply)
 Replies o s (Err fault) reply after = (after ≡ s) × (reply ≡ line_fault_text fault)
 
 -- the lines get the replies, line by line, and lead from the state s to the state after

@@ -1,5 +1,5 @@
 -- From what a command says to how its run ends.
-use Rattle.std.proofs.Common.{◌≡◌, ℕ, List, Option, Result, Ok, Err, IfOk, inl, inr, refl, sym, subst}
+use Rattle.std.proofs.Common.{ℕ, List, Option, Result, Ok, Err, IfOk, inl, inr, refl, sym, subst}
 use Rattle.std.specs.Io.KnownBytes.{Appends}
 use Rattle.line_reader.specs.Lines.{with_lf}
 use Rattle.run_status.specs.declared.said.Said.{Said}

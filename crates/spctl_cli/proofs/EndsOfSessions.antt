@@ -7,10 +7,10 @@ use Rattle.gk_io.specs.Told.{AppendsFront}
 use Rattle.line_reader.specs.Lines.{with_lf, HasNoLf}
 use Rattle.line_session.specs.Ends.{EndsFine, StopsBefore, BreaksOff, AtReadFault, AtLimit, AtWant}
 use Rattle.policy_model.specs.History.{Opening}
-use Rattle.session_model.specs.Session.{State, Answers}
-use Rattle.desk_state.specs.Stands.{Stands}
+use Rattle.session_model.specs.Slots.{State}
+use Rattle.session_model.specs.Session.{Answers}
 use Rattle.desk_state.specs.declared.desk.Desk.{Desk}
-use Rattle.desk_lines.specs.Answered.{HasAnswered}
+use Rattle.desk_lines.specs.Answered.{BeginsAt, HasAnswered}
 use Rattle.run_status.specs.declared.status.Status.{Status}
 use Rattle.run_status.specs.declared.status.Status.TheVariants.{ReadFault, SessionTooLong}
 use Rattle.spctl_cli.specs.Headline.{IsSession}
@@ -26,11 +26,11 @@ appends_nothing None = tt
 appends_nothing (Some bytes) = sym (append-nil bytes)
 
 -- the replies of a desk that stood for the state s
-answers : (o : Opening) (s : State) (start desk : Desk) (lines replies : List (List ℕ)) → Stands start o s.history → HasAnswered start desk lines replies → Answers o s lines replies
+answers : (o : Opening) (s : State) (start desk : Desk) (lines replies : List (List ℕ)) → BeginsAt start o s → HasAnswered start desk lines replies → Answers o s lines replies
 answers o s start desk lines replies stands answered = ((answered o s stands).0, (answered o s stands).1)
 
 -- a session that is read to its end
-pub session_fine : (o : Opening) (s : State) (start desk : Desk) (stands : Stands start o s.history) (left now written sent : Option (List ℕ))
+pub session_fine : (o : Opening) (s : State) (start desk : Desk) (stands : BeginsAt start o s) (left now written sent : Option (List ℕ))
     → EndsFine (HasAnswered start desk) left now written sent → (after : State) × IsSession o s after left now written sent
 session_fine o s start desk stands left now written sent e = (
   (e.answered o s stands).0,
@@ -46,7 +46,7 @@ session_fine o s start desk stands left now written sent e = (
 )
 
 -- a session that stops before its end
-pub session_stops : (Why : List (List ℕ) → List ℕ → Type 0) (o : Opening) (s : State) (start desk : Desk) (stands : Stands start o s.history) (left now written sent : Option (List ℕ))
+pub session_stops : (Why : List (List ℕ) → List ℕ → Type 0) (o : Opening) (s : State) (start desk : Desk) (stands : BeginsAt start o s) (left now written sent : Option (List ℕ))
     → StopsBefore Why (HasAnswered start desk) left now written sent → StopsBefore Why (Answers o s) left now written sent
 session_stops Why o s start desk stands left now written sent e = record {
   lines = e.lines;
@@ -61,7 +61,7 @@ session_stops Why o s start desk stands left now written sent e = record {
 }
 
 -- a session whose sink fails at a reply
-pub session_breaks : (o : Opening) (s : State) (start desk : Desk) (stands : Stands start o s.history) (left now written sent : Option (List ℕ))
+pub session_breaks : (o : Opening) (s : State) (start desk : Desk) (stands : BeginsAt start o s) (left now written sent : Option (List ℕ))
     → BreaksOff (HasAnswered start desk) left now written sent → BreaksOff (Answers o s) left now written sent
 session_breaks o s start desk stands left now written sent e = record {
   lines = e.lines;
@@ -79,7 +79,7 @@ session_breaks o s start desk stands left now written sent e = record {
 }
 
 -- and then the line of a fault
-session_tells : (Why : List (List ℕ) → List ℕ → Type 0) (text : List ℕ) (o : Opening) (s : State) (start desk : Desk) (stands : Stands start o s.history) (left now written mid sent : Option (List ℕ))
+session_tells : (Why : List (List ℕ) → List ℕ → Type 0) (text : List ℕ) (o : Opening) (s : State) (start desk : Desk) (stands : BeginsAt start o s) (left now written mid sent : Option (List ℕ))
     → StopsBefore Why (HasAnswered start desk) left now written mid → Appends mid sent (with_lf text) → TellsFault Why text o s left now written sent
 session_tells Why text o s start desk stands left now written mid sent e put = record {
   replied = mid;
@@ -88,7 +88,7 @@ session_tells Why text o s start desk stands left now written mid sent e put = r
 }
 
 -- and then a front of the line of a fault
-session_cut : (Why : List (List ℕ) → List ℕ → Type 0) (text : List ℕ) (o : Opening) (s : State) (start desk : Desk) (stands : Stands start o s.history) (left now written mid sent : Option (List ℕ))
+session_cut : (Why : List (List ℕ) → List ℕ → Type 0) (text : List ℕ) (o : Opening) (s : State) (start desk : Desk) (stands : BeginsAt start o s) (left now written mid sent : Option (List ℕ))
     → StopsBefore Why (HasAnswered start desk) left now written mid → AppendsFront mid sent (with_lf text) → BreaksAtFault Why text o s left now written sent
 session_cut Why text o s start desk stands left now written mid sent e put = record {
   replied = mid;
@@ -97,7 +97,7 @@ session_cut Why text o s start desk stands left now written mid sent e put = rec
 }
 
 -- a session whose source failed, and the line that tells of it
-pub read_fault_ends : (o : Opening) (s : State) (start desk : Desk) (stands : Stands start o s.history) (left now written mid sent : Option (List ℕ)) (ended : Status)
+pub read_fault_ends : (o : Opening) (s : State) (start desk : Desk) (stands : BeginsAt start o s) (left now written mid sent : Option (List ℕ)) (ended : Status)
     → StopsBefore AtReadFault (HasAnswered start desk) left now written mid → IsEndedBy ReadFault (with_lf read_fault_text) mid sent ended → SessionEnds o s left now written sent ended
 read_fault_ends o s start desk stands left now written mid sent ended e (inl whole) =
     subst (SessionEnds o s left now written sent) (sym whole.0) (session_tells AtReadFault read_fault_text o s start desk stands left now written mid sent e whole.1)
@@ -105,7 +105,7 @@ read_fault_ends o s start desk stands left now written mid sent ended e (inr fro
     subst (SessionEnds o s left now written sent) (sym front.0) (inr (inl (session_cut AtReadFault read_fault_text o s start desk stands left now written mid sent e front.1)))
 
 -- a session that ran past its limits, and the line that tells of it
-pub too_long_ends : (o : Opening) (s : State) (start desk : Desk) (stands : Stands start o s.history) (left now written mid sent : Option (List ℕ)) (ended : Status)
+pub too_long_ends : (o : Opening) (s : State) (start desk : Desk) (stands : BeginsAt start o s) (left now written mid sent : Option (List ℕ)) (ended : Status)
     → StopsBefore AtLimit (HasAnswered start desk) left now written mid → IsEndedBy SessionTooLong (with_lf too_long_text) mid sent ended → SessionEnds o s left now written sent ended
 too_long_ends o s start desk stands left now written mid sent ended e (inl whole) =
     subst (SessionEnds o s left now written sent) (sym whole.0) (session_tells AtLimit too_long_text o s start desk stands left now written mid sent e whole.1)

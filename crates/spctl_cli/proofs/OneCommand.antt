@@ -2,7 +2,7 @@
 use Rattle.std.proofs.Common.{◌≡◌, ℕ, List, Option, None, Some, sym, subst}
 use Rattle.gk_io.specs.Shelf.{File}
 use Rattle.policy_model.specs.History.{Opening}
-use Rattle.session_model.specs.Session.{State}
+use Rattle.session_model.specs.Slots.{State}
 use Rattle.run_status.specs.declared.status.Status.{Status}
 use Rattle.spctl_cli.specs.Commands.{Command, FileCommand, session, on_files}
 use Rattle.spctl_cli.specs.Causes.{WouldSay}

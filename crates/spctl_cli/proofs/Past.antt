@@ -5,7 +5,7 @@ use Rattle.std.proofs.lemmas.List.{append_cancel_right}
 use Rattle.line_reader.specs.Lines.{text_of}
 use Rattle.line_reader.specs.Limits.{IsWithin, RunsPast}
 use Rattle.policy_model.specs.History.{Opening}
-use Rattle.session_model.specs.Session.{State}
+use Rattle.session_model.specs.Slots.{State}
 use Rattle.run_status.specs.declared.status.Status.{Status}
 use Rattle.run_status.specs.declared.status.Status.TheVariants.{Fine, Denied, Usage, ReadFault, WriteFault, ShelfFault, ClockFault, FileMissing, FileTooLong, Refused, SessionTooLong, OutOfMemory}
 use Rattle.spctl_cli.specs.Ends.{SessionEnds, UsageEnds, GavePast}

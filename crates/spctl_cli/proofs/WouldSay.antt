@@ -3,13 +3,13 @@ use Rattle.std.proofs.Common.{◌≡◌, ◌≢◌, ◌↔◌, ℕ, ◌<◌, ◌
 use Rattle.gk_io.specs.Shelf.{File, file_named}
 use Rattle.policy_model.specs.Rules.{Kind}
 use Rattle.policy_model.specs.History.{Event, Opening}
-use Rattle.session_model.specs.Session.{State}
+use Rattle.session_model.specs.Slots.{State}
 use Rattle.req_grammar.specs.declared.limits.TheConstants.{MOST_TEXT_BYTES}
 use Rattle.req_blob.specs.declared.limits.TheConstants.{MOST_BYTES}
 use Rattle.run_status.specs.declared.status.Status.{Status}
 use Rattle.run_status.specs.declared.status.Status.TheVariants.{Fine, Denied, Usage, ReadFault, WriteFault, ShelfFault, ClockFault, FileMissing, FileTooLong, Refused, SessionTooLong, OutOfMemory}
 use Rattle.language_commands.specs.Taken.{TakenOrRefused}
-use Rattle.run_status.specs.Files.{SaysWithoutFile, SaysOfFile, SaysOnFile}
+use Rattle.run_status.specs.Files.{SaysWithoutFile, SaysOnFile}
 use Rattle.language_commands.specs.Compiling.{Compiles}
 use Rattle.language_commands.specs.CompilingSets.{CompilesSet}
 use Rattle.language_commands.specs.Dumping.{Dumps, DumpsBy, begins_as_set}

@@ -1,8 +1,8 @@
 -- When a command on files has something to say. This project's own.
-use Rattle.std.specs.Prelude.{ℕ, ◌⊎◌, List, Option, Some, None}
+use Rattle.std.specs.Prelude.{ℕ, List, Option, Some, None}
 use Rattle.gk_io.specs.Shelf.{File}
 use Rattle.policy_model.specs.History.{Opening}
-use Rattle.session_model.specs.Session.{State}
+use Rattle.session_model.specs.Slots.{State}
 use Rattle.req_grammar.specs.declared.limits.TheConstants.{MOST_TEXT_BYTES}
 use Rattle.req_blob.specs.declared.limits.TheConstants.{MOST_BYTES}
 use Rattle.file_assessment.specs.declared.limits.TheConstants.{MOST_SIGNATURE_BYTES, MOST_CODE_BYTES}

@@ -2,7 +2,7 @@
 use Rattle.std.specs.Prelude.{ℕ, List, Option}
 use Rattle.gk_io.specs.Shelf.{File}
 use Rattle.policy_model.specs.History.{Opening}
-use Rattle.session_model.specs.Session.{State}
+use Rattle.session_model.specs.Slots.{State}
 use Rattle.req_grammar.specs.declared.limits.TheConstants.{MOST_TEXT_BYTES}
 use Rattle.req_blob.specs.declared.limits.TheConstants.{MOST_BYTES}
 use Rattle.run_status.specs.declared.status.Status.{Status}

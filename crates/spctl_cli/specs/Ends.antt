@@ -3,7 +3,8 @@ use Rattle.std.specs.Prelude.{◌≡◌, ℕ, ◌⊎◌, List, [], ◌++◌, Opt
 use Rattle.std.specs.Io.KnownBytes.{Appends}
 use Rattle.gk_io.specs.Told.{AppendsFront}
 use Rattle.policy_model.specs.History.{Opening}
-use Rattle.session_model.specs.Session.{State, Answers}
+use Rattle.session_model.specs.Slots.{State}
+use Rattle.session_model.specs.Session.{Answers}
 use Rattle.gk_io.specs.Shelf.{File}
 use Rattle.spctl_cli.specs.Commands.{FileCommand, Command, session, on_files}
 use Rattle.spctl_cli.specs.CommandSays.{FilesSay}

@@ -2,7 +2,8 @@
 use Rattle.std.specs.Prelude.{ℕ, List, Option}
 use Rattle.std.specs.Io.KnownBytes.{Appends, Consumes, IsAtEnd}
 use Rattle.policy_model.specs.History.{Opening}
-use Rattle.session_model.specs.Session.{State, Session}
+use Rattle.session_model.specs.Slots.{State}
+use Rattle.session_model.specs.Session.{Session}
 use Rattle.line_reader.specs.Lines.{lines_of, text_of}
 use Rattle.line_reader.specs.Limits.{IsWithin}
 

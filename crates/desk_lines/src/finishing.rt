@@ -1,0 +1,50 @@
+//! An assessment that is finished: its reply, and its outcome offered to be kept.
+
+ghost use Rattle.std.specs.Prelude.{◌≡◌, ◌≤◌, ◌++◌, [], ℕ, List, length, Some, OnOk, OnErr, slice_get};
+ghost use Rattle.line_text.specs.LineText.{line_bytes};
+ghost use Rattle.line_session.specs.declared.limits.TheConstants.{REPLY_LIMIT};
+ghost use Rattle.policy_model.specs.Outcomes as policy;
+ghost use Rattle.policy_model.specs.History.{Event, Opening};
+ghost use Rattle.policy_model.specs.History as event;
+ghost use Rattle.session_model.specs.Finishing.{finished_text, finished_history};
+ghost use Rattle.object_model.specs.Tickets.{IsTicketOf, ticket_ask};
+ghost use Rattle.desk_ticket.specs.Ticket.{ticket_of};
+ghost use Rattle.desk_state.specs.Stands.{Stands};
+ghost use Rattle.desk_lines.specs.Slots.{IsHeld};
+
+use desk_state::{Begun, Desk, Ticket};
+use line_text::LineText;
+use std::alloc::AllocError;
+
+/// Writes the reply to an assessment that is finished now. Out of memory, nothing of it was done.
+pub fn finish(desk: &mut Desk, begun: Begun, out: &mut LineText) -> Result<(), AllocError>
+    requires { line_bytes out.old ≡ [] }
+    ensures room { length (line_bytes out.new) ≤ REPLY_LIMIT }
+    ensures finished { (o : Opening) (h : List Event) (k : ℕ) (a : policy.Ask)
+        → Stands desk.old o h → slice_get h k ≡ Some (event.ask a) → IsHeld o h k a begun
+        → OnOk result ((line_bytes out.new ≡ finished_text o h k a) × Stands desk.new o (finished_history o h k a)) }
+    ensures unchanged { (o : Opening) (h : List Event) → Stands desk.old o h → OnErr result (Stands desk.new o h) }
+{
+    match begun {
+        Begun::Known(verdict) => {
+            verdict.line_into(None, out);
+            Ok(())
+        }
+        Begun::Pending(ticket) => finish_ticket(desk, ticket, out),
+    }
+}
+
+fn finish_ticket(desk: &mut Desk, ticket: Ticket, out: &mut LineText) -> Result<(), AllocError>
+    requires { line_bytes out.old ≡ [] }
+    ensures room { length (line_bytes out.new) ≤ REPLY_LIMIT }
+    ensures finished { (o : Opening) (h : List Event) (k : ℕ)
+        → Stands desk.old o h → IsTicketOf (ticket_of ticket) o h k
+        → OnOk result ((line_bytes out.new ≡ finished_text o h k (ticket_ask (ticket_of ticket)))
+        × Stands desk.new o (finished_history o h k (ticket_ask (ticket_of ticket)))) }
+    ensures unchanged { (o : Opening) (h : List Event) → Stands desk.old o h → OnErr result (Stands desk.new o h) }
+{
+    let outcome = ticket.judge();
+    let finished = desk.finish(ticket, outcome)?;
+    finished.verdict.line_into(Some(finished.offered), out);
+    Ok(())
+}
