@@ -14,10 +14,16 @@ mod failures;
 #[cfg(test)]
 mod files;
 #[cfg(test)]
+mod kept_outcomes;
+#[cfg(test)]
 mod limits;
 #[cfg(test)]
 mod misfits;
 #[cfg(test)]
+mod overlaps;
+#[cfg(test)]
 mod sessions;
+#[cfg(test)]
+mod slots;
 #[cfg(test)]
 mod transcripts;

@@ -4,7 +4,7 @@
 use crate::transcripts::is_answered_so;
 use std::test::Fail;
 
-// Lines of no form, and of forms that are not built yet.
+// Lines of no form.
 #[rattlefmt::skip]
 const FIRST_WORDS: &[u8] = b"> 
 refused line 1 BadLine column=1
@@ -40,24 +40,6 @@ refused line 1 BadLine column=1
 refused line 1 BadLine column=1
 > tick\x0c5
 refused line 1 BadLine column=1
-> begin
-refused line 8 NotBuilt
-> begin 
-refused line 8 NotBuilt
-> begin 1
-refused line 8 NotBuilt
-> begin 1 execute unsigned
-refused line 8 NotBuilt
-> begin x y z
-refused line 8 NotBuilt
-> finish
-refused line 8 NotBuilt
-> finish 1
-refused line 8 NotBuilt
-> finish 1 2 3
-refused line 8 NotBuilt
-> finish 
-refused line 8 NotBuilt
 > begins 1
 refused line 1 BadLine column=1
 > finis
@@ -187,11 +169,11 @@ refused line 1 BadLine column=69
 > assess execute 1111111111111111111111111111111111111111 a 0 nocache nocache
 refused line 1 BadLine column=69
 > assess execute 1111111111111111111111111111111111111111 a 0 nocache
-refused line 8 NotBuilt
+rejected at=0 rule=none latent=none label=no%20matching%20rule override=none source=rules cache=inhibited
 > assess execute unsigned nocache
-refused line 8 NotBuilt
+rejected at=0 rule=none latent=none label=no%20usable%20signature override=none source=unsigned cache=none
 > assess open AAAAAAAAAAAAAAAAAAAAAAAAAAAAAAAAAAAAAAAA %2d 255 nocache
-refused line 8 NotBuilt
+rejected at=0 rule=none latent=none label=no%20matching%20rule override=none source=rules cache=inhibited
 > assess execute unsigned 
 refused line 1 BadLine column=25
 > assess execute unsigned 0
