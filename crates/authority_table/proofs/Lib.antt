@@ -11,3 +11,4 @@ mod Planned
 mod Spanned
 mod Rising
 mod Removed
+mod Marked

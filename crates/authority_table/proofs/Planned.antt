@@ -18,6 +18,7 @@ use Rattle.authority_table.specs.declared.touched.Touched.{Touched}
 use Rattle.authority_table.specs.declared.selector.Selector as code
 use Rattle.authority_table.specs.declared.row_change.RowChange.{RowChange}
 use Rattle.authority_table.specs.declared.row_change.RowChange.TheVariants.{Remove, Enable, Disable, Expire}
+use Rattle.authority_table.specs.declared.rooms.Room.{Room}
 use Rattle.authority_table.specs.declared.prepared.Step.TheVariants.{Insert, Change}
 use Rattle.authority_table.specs.declared.prepared.Prepared.{Prepared}
 use Rattle.authority_table.specs.Rule.{row_of, rows_of}
@@ -26,10 +27,13 @@ use Rattle.authority_table.specs.Held.{IsHeld}
 use Rattle.authority_table.specs.Touched.{IsTouched}
 use Rattle.authority_table.specs.Tally.{IsTally}
 use Rattle.authority_table.specs.Selector.{selector_of, content_by}
-use Rattle.authority_table.specs.Prepared.{HasRoom, Takes, stepped, IsPlanFor, planned, IsPlan}
+use Rattle.authority_table.specs.Prepared.{HasRoom, IsSpare, Takes, stepped, IsPlanFor, planned, IsPlan}
 use Rattle.authority_table.specs.Spans.{AreRising}
-use Rattle.authority_table.proofs.RoomFor.{room_grows}
+use Rattle.authority_table.specs.Label.{label_bytes}
+use Rattle.authority_table.specs.Marks.{mark_of, row_mark, AreMarks}
+use Rattle.authority_table.proofs.RoomFor.{room_grows, room_holds}
 use Rattle.authority_table.proofs.Rising.{rising_after}
+use Rattle.authority_table.proofs.Marked.{marks_more}
 use Rattle.authority_table.proofs.TallyGoesOn.{none_full, rows_by, touched_rows}
 
 -- a full table refuses one more, and no other does
@@ -44,7 +48,7 @@ room_takes rules n h =
     ap (λ b. if b then None else Some table_full) (sym lt)
 
 -- a rule that is added
-pub plan_of_insert : (rules : List Rule) (rule : Rule) (room : Vec Rule Global) (t : Touched) → HasRoom (length rules) room → IsTouched (row_of rule ∷ []) t →
+pub plan_of_insert : (rules : List Rule) (rule : Rule) (room : Room) (t : Touched) → HasRoom (length rules) room → IsTouched (row_of rule ∷ []) t →
     IsPlan (record { step = Insert rule room; touched = t; count = 1 }) (rows_of rules) (rows_of rules ++ row_of rule ∷ []) (row_of rule ∷ [])
 plan_of_insert rules rule room t h touched = record {
   fits = subst (λ n. HasRoom n room) (sym (length-map rules row_of)) h;
@@ -71,10 +75,10 @@ plan_of_change n s t c rows tally same h passes = record {
 }
 
 -- what the steps need and leave
-pub insert_fits : (p : Prepared) (rule : Rule) (room : Vec Rule Global) (rules : List Rule) → p.step ≡ Insert rule room → IsPlanFor p (rows_of rules) → HasRoom (length rules) room
+pub insert_fits : (p : Prepared) (rule : Rule) (room : Room) (rules : List Rule) → p.step ≡ Insert rule room → IsPlanFor p (rows_of rules) → HasRoom (length rules) room
 insert_fits p rule room rules e h = subst (λ n. HasRoom n room) (length-map rules row_of) (subst (λ s. Takes s (rows_of rules)) e h)
 
-pub insert_leaves : (p : Prepared) (rule : Rule) (room : Vec Rule Global) (old new : List Rule) → p.step ≡ Insert rule room → new ≡ old ++ rule ∷ [] → rows_of new ≡ planned p (rows_of old)
+pub insert_leaves : (p : Prepared) (rule : Rule) (room : Room) (old new : List Rule) → p.step ≡ Insert rule room → new ≡ old ++ rule ∷ [] → rows_of new ≡ planned p (rows_of old)
 insert_leaves p rule room old new e is = ap rows_of is ∙ (map-append row_of old (rule ∷ []) ∙ ap (λ s. stepped s (rows_of old)) (sym e))
 
 pub change_fits : (p : Prepared) (s : code.Selector) (c : RowChange) (rows : List Row) → p.step ≡ Change s c → IsPlanFor p rows → least_id (full_rows (content_by s c) rows) ≡ None
@@ -83,18 +87,47 @@ change_fits p s c rows e h = subst (λ x. Takes x rows) e h
 pub change_leaves : (p : Prepared) (s : code.Selector) (c : RowChange) (old : List Row) (new : List Row) → p.step ≡ Change s c → new ≡ rows_after 0 (content_by s c) old → new ≡ planned p old
 change_leaves p s c old new e is = is ∙ ap (λ x. stepped x old) (sym e)
 
+as_many : (rules : List Rule) (marks : List ℕ) → AreMarks (rows_of rules) marks → length marks ≡ length rules
+as_many rules marks marked = ap length marked ∙ (length-map (rows_of rules) row_mark ∙ length-map rules row_of)
+
 -- what always holds, after one more rule came
-pub held_more : (old new : Vec Rule Global) (rises : Bool) (rule : Rule) (room : Vec Rule Global) → HasRoom (length old.items) room → new.items ≡ old.items ++ rule ∷ [] →
-    room_for (length new.items) ≤ vec_capacity new → (rises ≡ true → AreRising (old.items ++ rule ∷ [])) → IsHeld new rises
-held_more old new rises rule room h is held up =
+pub held_more : (old new : Vec Rule Global) (marks after : Vec ℕ Global) (rising rises : Bool) (rule : Rule) (mark : ℕ) → IsHeld old marks rising → length old.items < MOST_RULES →
+    new.items ≡ old.items ++ rule ∷ [] → room_for (length new.items) ≤ vec_capacity new → mark ≡ mark_of (label_bytes rule.label) → after.items ≡ marks.items ++ mark ∷ [] →
+    room_for (length after.items) ≤ vec_capacity after → (rises ≡ true → AreRising (old.items ++ rule ∷ [])) → IsHeld new after rises
+held_more old new marks after rising rises rule mark h few is held e more marks_held up =
     let one : length new.items ≡ length old.items + 1 = ap length is ∙ length-append old.items (rule ∷ []) in
-    record { few = omega (arith, h.few, one); held = held; rise = λ r. subst AreRising (sym is) (up r) }
+    let marked : AreMarks (rows_of new.items) after.items = marks_more old.items new.items rule marks.items after.items mark h.marked e is more in
+    record {
+      few = omega (arith, few, one);
+      held = held;
+      marks_held = subst (λ n. room_for n ≤ vec_capacity after) (as_many new.items after.items marked) marks_held;
+      marked = marked;
+      rise = λ r. subst AreRising (sym is) (up r);
+    }
+
+-- the marks have the memory that so many rules have at least
+pub marks_room : (rules : Vec Rule Global) (marks : Vec ℕ Global) (rising : Bool) → IsHeld rules marks rising → room_for (length marks.items) ≤ vec_capacity marks
+marks_room rules marks rising h = subst (λ n. room_for n ≤ vec_capacity marks) (sym (as_many rules.items marks.items h.marked)) h.marks_held
+
+pub marks_fit : (rules : Vec Rule Global) (marks : Vec ℕ Global) (rising : Bool) → IsHeld rules marks rising → length rules.items ≤ vec_capacity marks
+marks_fit rules marks rising h = omega (arith, room_holds (length rules.items) h.few, h.marks_held)
+
+pub marks_few : (rules : Vec Rule Global) (marks : Vec ℕ Global) (rising : Bool) → IsHeld rules marks rising → (room : Room) → HasRoom (length rules.items) room → length marks.items < MOST_RULES
+marks_few rules marks rising h room has = omega (arith, has.few, as_many rules.items marks.items h.marked)
+
+pub marks_spare : (rules : Vec Rule Global) (marks : Vec ℕ Global) (rising : Bool) → IsHeld rules marks rising → (room : Room) → HasRoom (length rules.items) room → IsSpare (length marks.items) room.marks
+marks_spare rules marks rising h room has = subst (λ n. IsSpare n room.marks) (sym (as_many rules.items marks.items h.marked)) has.marks
 
 -- and after rules were changed
-pub held_after : (s : code.Selector) (c : RowChange) (old new : Vec Rule Global) (rising : Bool) → IsHeld old rising → rows_of new.items ≡ rows_after 0 (content_by s c) (rows_of old.items) →
-    length new.items ≤ length old.items → vec_capacity new ≡ vec_capacity old → IsHeld new rising
-held_after s c old new rising h rows fewer same = record {
-  few = omega (arith, h.few, fewer);
-  held = omega (arith, h.held, room_grows (length new.items) (length old.items) fewer, same);
-  rise = λ r. rising_after s c old.items new.items rows (h.rise r);
-}
+pub held_after : (s : code.Selector) (c : RowChange) (old new : Vec Rule Global) (marks after : Vec ℕ Global) (rising : Bool) → IsHeld old marks rising →
+    rows_of new.items ≡ rows_after 0 (content_by s c) (rows_of old.items) → length new.items ≤ length old.items → vec_capacity new ≡ vec_capacity old →
+    AreMarks (rows_of new.items) after.items → vec_capacity after ≡ vec_capacity marks → IsHeld new after rising
+held_after s c old new marks after rising h rows fewer same marked marks_same =
+    let less : room_for (length new.items) ≤ room_for (length old.items) = room_grows (length new.items) (length old.items) fewer in
+    record {
+      few = omega (arith, h.few, fewer);
+      held = omega (arith, h.held, less, same);
+      marks_held = omega (arith, h.marks_held, less, marks_same);
+      marked = marked;
+      rise = λ r. rising_after s c old.items new.items rows (h.rise r);
+    }

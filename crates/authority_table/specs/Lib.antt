@@ -14,4 +14,5 @@ pub mod Tally
 pub mod Changes
 pub mod Prepared
 pub mod Spans
+pub mod Marks
 pub mod Held

@@ -10,6 +10,7 @@ use Rattle.policy_model.specs.Refusals.{full_rows, least_id}
 use Rattle.authority_table.specs.declared.rule.Rule.{Rule}
 use Rattle.authority_table.specs.declared.fault.PlanFault.{PlanFault}
 use Rattle.authority_table.specs.declared.fault.PlanFault.TheVariants.{TableFull, NoRule, DisableFull, OutOfMemory}
+use Rattle.authority_table.specs.declared.rooms.Room.{Room}
 use Rattle.authority_table.specs.declared.prepared.Step.{Step}
 use Rattle.authority_table.specs.declared.prepared.Step.TheVariants.{Insert, Change}
 use Rattle.authority_table.specs.declared.prepared.Prepared.{Prepared}
@@ -35,11 +36,16 @@ abbrev pub refused_in : Option PlanFault → Option Answer
 refused_in None = None
 refused_in (Some fault) = refusal_of fault
 
--- a table of so many rules takes one more, and there is memory for it: the table's own, or this room
-pub record HasRoom (count : ℕ) (room : Vec Rule Global) : Type 0 where
-  pub few : count < MOST_RULES
+-- a list of so many has memory for one more: its own, or that of this empty one
+pub record IsSpare {X : Type 0} (count : ℕ) (room : Vec X Global) : Type 0 where
   pub empty : room.items ≡ []
   pub enough : room_for (count + 1) ≤ max (room_for count) (vec_capacity room)
+
+-- a table of so many rules takes one more, and there is memory for it: the table's own, or this room
+pub record HasRoom (count : ℕ) (room : Room) : Type 0 where
+  pub few : count < MOST_RULES
+  pub rules : IsSpare count room.rules
+  pub marks : IsSpare count room.marks
 
 -- what a step needs of the rows: room for an added rule; no row to be disabled whose count is full
 abbrev pub Takes : Step → List Row → Type 0

@@ -1,6 +1,6 @@
 //! Changes of the rules in place.
 
-ghost use Rattle.std.specs.Prelude.{◌≡◌, ◌≤◌, ◌<◌, ◌+◌, [], ◌∷◌, ◌++◌, length, not, vec_capacity, None, true, if◌then◌else◌};
+ghost use Rattle.std.specs.Prelude.{◌≡◌, ◌≢◌, ◌≤◌, ◌<◌, ◌+◌, [], ◌∷◌, ◌++◌, length, not, vec_capacity, None, true, if◌then◌else◌};
 ghost use Rattle.std.specs.List.{filter};
 ghost use Rattle.policy_model.specs.Changes as model;
 ghost use Rattle.policy_model.specs.Changes.{selects};
@@ -9,77 +9,114 @@ ghost use Rattle.authority_table.specs.Rooms.{room_for};
 ghost use Rattle.authority_table.specs.Rule.{row_of, rows_of};
 ghost use Rattle.authority_table.specs.Selector.{selector_of, content_by};
 ghost use Rattle.authority_table.specs.Changes.{changed_by};
-ghost use Rattle.authority_table.specs.Prepared.{HasRoom};
+ghost use Rattle.authority_table.specs.Prepared.{IsSpare};
 ghost use Rattle.authority_table.specs.Spans.{AreRising, IsSpan};
+ghost use Rattle.authority_table.specs.Marks.{AreMarks};
+ghost use Rattle.authority_table.specs.declared.row_change.RowChange.TheVariants.{Remove};
+ghost use Rattle.policy_model.specs.declared.limits.TheConstants.{MOST_RULES};
 
+use crate::marks::mark_again;
 use crate::rooms;
 use crate::row_change::RowChange;
 use crate::rule::Rule;
 use crate::selector::Selector;
 use crate::span::{Span, span_of};
 
-/// Adds a rule behind all others; where the memory of the rules is used up, they move into the room.
-pub(crate) fn insert(rules: &mut Vec<Rule>, rule: Rule, room: Vec<Rule>)
-    requires held { room_for (length rules.old.items) ≤ vec_capacity rules.old }
-    requires room { HasRoom (length rules.old.items) room }
-    ensures items { rules.new.items ≡ rules.old.items ++ rule ∷ [] }
-    ensures held { room_for (length rules.new.items) ≤ vec_capacity rules.new }
+/// Adds one behind all others; where the memory of the list is used up, it moves into the room.
+pub(crate) fn insert<T: Drop>(list: &mut Vec<T>, item: T, room: Vec<T>)
+    requires few { length list.old.items < MOST_RULES }
+    requires held { room_for (length list.old.items) ≤ vec_capacity list.old }
+    requires room { IsSpare (length list.old.items) room }
+    ensures items { list.new.items ≡ list.old.items ++ item ∷ [] }
+    ensures held { room_for (length list.new.items) ≤ vec_capacity list.new }
 {
-    move_if_full(rules, room);
-    rules.push_reserved(rule);
+    move_if_full(list, room);
+    list.push_reserved(item);
 }
 
-/// Moves the rules into the room where they have no memory for one more.
-fn move_if_full(rules: &mut Vec<Rule>, room: Vec<Rule>)
-    requires held { room_for (length rules.old.items) ≤ vec_capacity rules.old }
-    requires room { HasRoom (length rules.old.items) room }
-    ensures items { rules.new.items ≡ rules.old.items }
-    ensures held { room_for (length rules.new.items + 1) ≤ vec_capacity rules.new }
+/// Moves the list into the room where it has no memory for one more.
+fn move_if_full<T: Drop>(list: &mut Vec<T>, room: Vec<T>)
+    requires few { length list.old.items < MOST_RULES }
+    requires held { room_for (length list.old.items) ≤ vec_capacity list.old }
+    requires room { IsSpare (length list.old.items) room }
+    ensures items { list.new.items ≡ list.old.items }
+    ensures held { room_for (length list.new.items + 1) ≤ vec_capacity list.new }
 {
-    if rules.capacity() < rooms::room_for(rules.len() + 1) {
+    if list.capacity() < rooms::room_for(list.len() + 1) {
         let mut room = room;
-        let _ = room.append(rules);
-        *rules = room;
+        let _ = room.append(list);
+        *list = room;
     }
 }
 
 /// Changes the selected rules, or takes them out.
-pub(crate) fn change(rules: &mut Vec<Rule>, rising: bool, selector: &Selector, change: &RowChange)
+pub(crate) fn change(
+    rules: &mut Vec<Rule>,
+    marks: &mut Vec<u32>,
+    rising: bool,
+    selector: &Selector,
+    change: &RowChange,
+)
     requires rise { rising ≡ true → AreRising rules.old.items }
+    requires marked { AreMarks (rows_of rules.old.items) marks.old.items }
+    requires room { length rules.old.items ≤ vec_capacity marks.old }
     requires counts { least_id (full_rows (content_by selector.now change.now) (rows_of rules.old.items)) ≡ None }
     ensures rows { rows_of rules.new.items ≡ model.rows_after 0 (content_by selector.now change.now) (rows_of rules.old.items) }
     ensures fewer { length rules.new.items ≤ length rules.old.items }
     ensures held { vec_capacity rules.new ≡ vec_capacity rules.old }
+    ensures marked { AreMarks (rows_of rules.new.items) marks.new.items }
+    ensures marks_held { vec_capacity marks.new ≡ vec_capacity marks.old }
 {
-    let span = span_of(rules, rising, selector);
+    let span = span_of(rules, marks, rising, selector);
     match change {
-        RowChange::Remove => remove(rules, span, selector),
-        _ => change_each(rules, span, selector, change),
+        RowChange::Remove => remove(rules, marks, span, selector),
+        _ => change_in_place(rules, span, selector, change),
     }
 }
 
-fn remove(rules: &mut Vec<Rule>, span: Span, selector: &Selector)
-    requires { IsSpan (selector_of selector.now) (rows_of rules.old.items) span }
-    ensures rows { rows_of rules.new.items ≡ filter (λ r. not (selects (selector_of selector.now) r)) (rows_of rules.old.items) }
+/// Changes the selected rules where they are.
+fn change_in_place(rules: &mut Vec<Rule>, span: Span, selector: &Selector, change: &RowChange)
+    requires span { IsSpan (selector_of selector.now) (rows_of rules.old.items) span }
+    requires counts { least_id (full_rows (content_by selector.now change.now) (rows_of rules.old.items)) ≡ None }
+    requires stays { change.now ≢ Remove }
+    ensures rows { rows_of rules.new.items ≡ model.rows_after 0 (content_by selector.now change.now) (rows_of rules.old.items) }
     ensures fewer { length rules.new.items ≤ length rules.old.items }
     ensures held { vec_capacity rules.new ≡ vec_capacity rules.old }
 {
+    change_each(rules, span, selector, change)
+}
+
+fn remove(rules: &mut Vec<Rule>, marks: &mut Vec<u32>, span: Span, selector: &Selector)
+    requires span { IsSpan (selector_of selector.now) (rows_of rules.old.items) span }
+    requires marked { AreMarks (rows_of rules.old.items) marks.old.items }
+    requires room { length rules.old.items ≤ vec_capacity marks.old }
+    ensures rows { rows_of rules.new.items ≡ filter (λ r. not (selects (selector_of selector.now) r)) (rows_of rules.old.items) }
+    ensures fewer { length rules.new.items ≤ length rules.old.items }
+    ensures held { vec_capacity rules.new ≡ vec_capacity rules.old }
+    ensures marked { AreMarks (rows_of rules.new.items) marks.new.items }
+    ensures marks_held { vec_capacity marks.new ≡ vec_capacity marks.old }
+{
     if span.to == span.from + 1 {
-        remove_at(rules, span.from, selector)
+        remove_at(rules, marks, span.from, selector)
     } else {
-        remove_each(rules, selector)
+        remove_each(rules, selector);
+        mark_again(rules, marks)
     }
 }
 
 /// Takes the rule at this place out if it is selected; no other one is.
-fn remove_at(rules: &mut Vec<Rule>, at: usize, selector: &Selector)
-    requires { IsSpan (selector_of selector.now) (rows_of rules.old.items) (record { from = at; to = at + 1 }) }
+fn remove_at(rules: &mut Vec<Rule>, marks: &mut Vec<u32>, at: usize, selector: &Selector)
+    requires span { IsSpan (selector_of selector.now) (rows_of rules.old.items) (record { from = at; to = at + 1 }) }
+    requires marked { AreMarks (rows_of rules.old.items) marks.old.items }
     ensures rows { rows_of rules.new.items ≡ filter (λ r. not (selects (selector_of selector.now) r)) (rows_of rules.old.items) }
     ensures fewer { length rules.new.items ≤ length rules.old.items }
     ensures held { vec_capacity rules.new ≡ vec_capacity rules.old }
+    ensures marked { AreMarks (rows_of rules.new.items) marks.new.items }
+    ensures marks_held { vec_capacity marks.new ≡ vec_capacity marks.old }
 {
     if rules[at].is_selected(selector) {
         drop(rules.remove(at));
+        marks.remove(at);
     }
 }
 

@@ -6,6 +6,7 @@ mod fault;
 mod found;
 mod kind;
 mod label;
+mod marks;
 mod moment;
 mod outcome;
 mod prepared;

@@ -6,6 +6,7 @@ ghost use Rattle.authority_table.specs.Rank.{rank_view};
 
 use crate::kind::Kind;
 use crate::rank::Rank;
+use crate::rooms::Room;
 use crate::row_change::RowChange;
 use crate::rule::Rule;
 use crate::selector::Selector;
@@ -17,7 +18,7 @@ pub enum Step {
     /// A rule is added behind all others; the room is for a table whose memory is used up.
     Insert {
         rule: Rule,
-        room: Vec<Rule>,
+        room: Room,
     },
     Change {
         selector: Selector,

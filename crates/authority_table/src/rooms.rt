@@ -1,6 +1,6 @@
 //! For how many rules a table has memory.
 
-ghost use Rattle.std.specs.Prelude.{◌≡◌, ◌<◌, ◌≤◌, ◌++◌, [], ◌∷◌, length, IfOk, OnOk, OnErr, vec_capacity};
+ghost use Rattle.std.specs.Prelude.{◌≡◌, ◌<◌, ◌≤◌, ◌+◌, ◌++◌, [], ◌∷◌, length, IfOk, OnOk, OnErr, vec_capacity};
 ghost use Rattle.policy_model.specs.declared.limits.TheConstants.{MOST_RULES};
 ghost use Rattle.authority_table.specs.Rooms as rooms;
 
@@ -29,12 +29,28 @@ pub(crate) fn room_for(count: usize) -> usize
     }
 }
 
-ghost use Rattle.authority_table.specs.Prepared.{HasRoom};
+ghost use Rattle.authority_table.specs.Prepared.{HasRoom, IsSpare};
+
+/// Memory for the rules of a table and for their marks.
+#[derive(Drop)]
+pub struct Room {
+    pub rules: Vec<Rule>,
+    pub marks: Vec<u32>,
+}
 
 /// Memory for one rule more, where a table of so many rules may have none left; else nothing.
-pub(crate) fn room_behind(alloc: Global, count: usize) -> Result<Vec<Rule>, AllocError>
+pub(crate) fn room_behind(alloc: Global, count: usize) -> Result<Room, AllocError>
     requires { count < MOST_RULES }
     ensures { IfOk result (λ room. HasRoom count room) }
+{
+    let rules = spare_behind(alloc, count)?;
+    let marks = spare_behind(alloc, count)?;
+    Ok(Room { rules, marks })
+}
+
+fn spare_behind<T: Drop>(alloc: Global, count: usize) -> Result<Vec<T>, AllocError>
+    requires { count < MOST_RULES }
+    ensures { IfOk result (λ room. IsSpare count room) }
 {
     let wanted = room_for(count + 1);
     if wanted == room_for(count) {
@@ -56,4 +72,15 @@ pub(crate) fn pushed(rules: &mut Vec<Rule>, rule: Rule) -> Result<(), AllocError
     rules.reserve(room_for(count + 1) - count)?;
     rules.push_reserved(rule);
     Ok(())
+}
+
+/// Takes the memory for one mark more; the marks are as before.
+pub(crate) fn reserve_mark(marks: &mut Vec<u32>) -> Result<(), AllocError>
+    requires { length marks.old.items < MOST_RULES }
+    ensures items { marks.new.items ≡ marks.old.items }
+    ensures grows { vec_capacity marks.old ≤ vec_capacity marks.new }
+    ensures ok { OnOk result (rooms.room_for (length marks.old.items + 1) ≤ vec_capacity marks.new) }
+{
+    let count = marks.len();
+    marks.reserve(room_for(count + 1) - count)
 }

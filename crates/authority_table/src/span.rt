@@ -7,7 +7,9 @@ ghost use Rattle.policy_model.specs.Contents.{by_id};
 ghost use Rattle.authority_table.specs.Rule.{rows_of};
 ghost use Rattle.authority_table.specs.Selector.{selector_of};
 ghost use Rattle.authority_table.specs.Spans.{AreRising, IsSpan};
+ghost use Rattle.authority_table.specs.Marks.{AreMarks};
 
+use crate::marks::span_of_label;
 use crate::rule::Rule;
 use crate::rule_id::RuleId;
 use crate::selector::{Selector, Which};
@@ -19,17 +21,20 @@ pub struct Span {
     pub to: usize,
 }
 
-/// A span outside of which no rule is selected. Where the numbers of the rules rise, one is searched for by halves.
-pub(crate) fn span_of(rules: &[Rule], rising: bool, selector: &Selector) -> Span
-    requires { rising ≡ true → AreRising rules.now }
+/// A span outside of which no rule is selected. Where the numbers of the rules rise, one is searched for by halves; a
+/// label is searched for among the marks.
+pub(crate) fn span_of(rules: &[Rule], marks: &[u32], rising: bool, selector: &Selector) -> Span
+    requires rise { rising ≡ true → AreRising rules.now }
+    requires marked { AreMarks (rows_of rules.now) marks.now }
     ensures { IsSpan (selector_of selector.now) (rows_of rules.now) result }
 {
     match &selector.which {
         Which::Id(id) if rising => span_of_id(rules, *id),
-        _ => Span {
+        Which::Id(_) => Span {
             from: 0,
             to: rules.len(),
         },
+        Which::Label(label) => span_of_label(marks, label),
     }
 }
 

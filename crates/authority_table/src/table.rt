@@ -13,9 +13,10 @@ use crate::changes;
 use crate::fault::PlanFault;
 use crate::found::Found;
 use crate::kind::Kind;
+use crate::marks::mark_of;
 use crate::moment::Moment;
 use crate::prepared::{Prepared, Step};
-use crate::rooms::{pushed, room_behind};
+use crate::rooms::{Room, pushed, reserve_mark, room_behind};
 use crate::row_change::RowChange;
 use crate::rule::Rule;
 use crate::rule_id::RuleId;
@@ -35,6 +36,8 @@ use std::sync::Arc;
 #[derive(Drop)]
 pub struct Table {
     rules: Vec<Rule>,
+    /// The mark of each rule's label.
+    marks: Vec<u32>,
     /// The numbers of the rules are known to rise.
     rising: bool,
 }
@@ -52,7 +55,7 @@ impl Model for Table {
 
     ghost view = { λ t. t.rules.items };
 
-    ghost invariant = { λ t. IsHeld t.rules t.rising };
+    ghost invariant = { λ t. IsHeld t.rules t.marks t.rising };
 }
 
 impl Table {
@@ -72,6 +75,7 @@ impl Table {
     {
         Table {
             rules: Vec::new(alloc),
+            marks: Vec::new(alloc),
             rising: true,
         }
     }
@@ -97,7 +101,10 @@ impl Table {
         ensures err { OnErr result (self.new ≡ self.old) }
     {
         let rising = rises_with(&self.rules, self.rising, &rule);
+        let mark = mark_of(&rule.label);
+        reserve_mark(&mut self.marks)?;
         pushed(&mut self.rules, rule)?;
+        self.marks.push_reserved(mark);
         self.rising = rising;
         Ok(())
     }
@@ -113,14 +120,14 @@ impl Table {
     pub fn selects(&self, selector: &Selector) -> bool
         ensures { result ≡ list_any (selects (selector_of selector.now)) (rows_of self.now) }
     {
-        tallied(&self.rules, self.rising, selector).count > 0
+        tallied(&self.rules, &self.marks, self.rising, selector).count > 0
     }
 
     /// Of the selected rules that can't be disabled once more the least number.
     pub fn disable_full(&self, selector: &Selector) -> Option<RuleId>
         ensures { result ≡ least_id (full_rows (disable (selector_of selector.now)) (rows_of self.now)) }
     {
-        tallied(&self.rules, self.rising, selector).full
+        tallied(&self.rules, &self.marks, self.rising, selector).full
     }
 
     /// Plans to add a rule behind all others, and takes the memory for it.
@@ -152,7 +159,7 @@ impl Table {
         ensures planned { (n : ℕ) → IfOk result (λ plan. IsPlan plan (rows_of self.now) (rows_after n (content_by selector.now change) (rows_of self.now))
             (touched_by n (content_by selector.now change) (rows_of self.now))) }
     {
-        let tally = tallied(&self.rules, self.rising, selector);
+        let tally = tallied(&self.rules, &self.marks, self.rising, selector);
         match refused(&tally, &change) {
             Some(fault) => Err(fault),
             None => Ok(Prepared {
@@ -175,10 +182,18 @@ impl Table {
         match step {
             Step::Insert { rule, room } => {
                 self.rising = rises_with(&self.rules, self.rising, &rule);
-                changes::insert(&mut self.rules, rule, room)
+                let Room { rules, marks } = room;
+                changes::insert(&mut self.marks, mark_of(&rule.label), marks);
+                changes::insert(&mut self.rules, rule, rules)
             }
             Step::Change { selector, change } => {
-                changes::change(&mut self.rules, self.rising, &selector, &change)
+                changes::change(
+                    &mut self.rules,
+                    &mut self.marks,
+                    self.rising,
+                    &selector,
+                    &change,
+                )
             }
         }
     }

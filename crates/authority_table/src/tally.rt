@@ -9,6 +9,7 @@ ghost use Rattle.policy_model.specs.Refusals.{least_id};
 ghost use Rattle.authority_table.specs.Rule.{row_of, rows_of};
 ghost use Rattle.authority_table.specs.Selector.{selector_of};
 ghost use Rattle.authority_table.specs.Spans.{AreRising};
+ghost use Rattle.authority_table.specs.Marks.{AreMarks};
 ghost use Rattle.authority_table.specs.Tally.{IsTally};
 
 use crate::fault::PlanFault;
@@ -93,12 +94,13 @@ fn lesser(id: RuleId, other: Option<RuleId>) -> RuleId
 }
 
 /// What an edit with this selector would touch of the rules.
-pub(crate) fn tallied(rules: &[Rule], rising: bool, selector: &Selector) -> Tally
+pub(crate) fn tallied(rules: &[Rule], marks: &[u32], rising: bool, selector: &Selector) -> Tally
     requires few { length rules.now ≤ MOST_RULES }
     requires rise { rising ≡ true → AreRising rules.now }
+    requires marked { AreMarks (rows_of rules.now) marks.now }
     ensures { IsTally (selector_of selector.now) (rows_of rules.now) result }
 {
-    let span = span_of(rules, rising, selector);
+    let span = span_of(rules, marks, rising, selector);
     tallied_each(&rules[span.from..span.to], selector)
 }
 

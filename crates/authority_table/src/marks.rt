@@ -1,0 +1,82 @@
+//! Short numbers of labels, one for each rule: those of a label are found without a look at the others.
+
+ghost use Rattle.std.specs.Prelude.{◌≡◌, ◌≢◌, ◌<◌, ◌≤◌, ℕ, List, length, get_or, vec_capacity};
+ghost use Rattle.policy_model.specs.Rules.{Row};
+ghost use Rattle.policy_model.specs.Contents as model;
+ghost use Rattle.policy_model.specs.Contents.{by_label};
+ghost use Rattle.authority_table.specs.Label.{label_bytes};
+ghost use Rattle.authority_table.specs.Rule.{rows_of};
+ghost use Rattle.authority_table.specs.Spans.{IsSpan};
+ghost use Rattle.authority_table.specs.Marks as marks;
+ghost use Rattle.authority_table.specs.Marks.{AreMarks};
+
+use crate::label::Label;
+use crate::rule::Rule;
+use crate::span::Span;
+
+/// The mark of a label. Those of different labels are nearly always different.
+pub(crate) fn mark_of(label: &Label) -> u32
+    ensures { result ≡ marks.mark_of (label_bytes label.now) }
+{
+    let mut mark = 0;
+    for byte in label.as_slice() {
+        mark = mixed(mark, *byte);
+    }
+    mark
+}
+
+/// The mark with one more byte.
+fn mixed(mark: u32, byte: u8) -> u32
+    ensures { result ≡ marks.mixed mark byte }
+{
+    ((mark as u64 * 16_777_619 + byte as u64) % 4_294_967_296) as u32
+}
+
+/// A span outside of which no rule has the label.
+pub(crate) fn span_of_label(marks: &[u32], label: &Label) -> Span
+    ensures { (selector : model.Selector) (rows : List Row) → selector.which ≡ by_label (label_bytes label.now) → AreMarks rows marks.now → IsSpan selector rows result }
+{
+    let mark = mark_of(label);
+    let from = first_of(marks, mark);
+    let to = end_of(marks, from, mark);
+    Span { from, to }
+}
+
+/// How many marks are before the first of these.
+fn first_of(marks: &[u32], mark: u32) -> usize
+    ensures within { result ≤ length marks.now }
+    ensures others { (k d : ℕ) → k < result → get_or marks.now k d ≢ mark }
+{
+    for i in 0..marks.len() {
+        if marks[i] == mark {
+            return i;
+        }
+    }
+    marks.len()
+}
+
+/// The place behind the last of these marks, or `from` where none is behind that.
+fn end_of(marks: &[u32], from: usize, mark: u32) -> usize
+    requires { from ≤ length marks.now }
+    ensures ordered { from ≤ result }
+    ensures within { result ≤ length marks.now }
+    ensures others { (k d : ℕ) → result ≤ k → k < length marks.now → get_or marks.now k d ≢ mark }
+{
+    let mut to = marks.len();
+    while from < to && marks[to - 1] != mark {
+        to -= 1;
+    }
+    to
+}
+
+/// Makes the marks anew, in the memory that they have.
+pub(crate) fn mark_again(rules: &[Rule], marks: &mut Vec<u32>)
+    requires { length rules.now ≤ vec_capacity marks.old }
+    ensures marked { AreMarks (rows_of rules.now) marks.new.items }
+    ensures held { vec_capacity marks.new ≡ vec_capacity marks.old }
+{
+    marks.clear();
+    for rule in rules {
+        marks.push_reserved(mark_of(&rule.label));
+    }
+}
