@@ -1,12 +1,15 @@
 -- One rule that is taken out.
-use Rattle.std.proofs.Common.{◌≡◌, ℕ, suc, ◌+◌, ◌<◌, ◌≤◌, length, take, drop, drop-cons, get_or, List, [], ◌∷◌, ◌++◌, refl, sym, ap, ◌∙◌, arith}
-use Rattle.std.specs.Prelude.{Bool, true, false, cond, not}
-use Rattle.std.specs.List.{filter, remove}
-use Rattle.std.proofs.lemmas.List.{length-map, get_or-map, take-map, drop-map, take-append-drop, map-append}
+use Rattle.std.proofs.Common.{◌≡◌, ℕ, suc, ◌+◌, ◌<◌, ◌≤◌, length, take, drop, drop-cons, get_or, set, List, [], ◌∷◌, ◌++◌, refl, sym, ap, ◌∙◌, arith}
+use Rattle.std.specs.Prelude.{Bool, true, false, cond, not, map}
+use Rattle.std.specs.List.{filter, remove, swap}
+use Rattle.std.proofs.lemmas.List.{length-map, get_or-map, take-map, drop-map, take-append-drop, map-append, map-set}
 use Rattle.std.proofs.lemmas.List.Elements.{filter-append}
+use Rattle.std.proofs.lemmas.List.Edits.{swap_is}
+use Rattle.std.proofs.lemmas.List.Filters.{FiltersInPlace}
 use Rattle.policy_model.specs.Rules.{Row}
 use Rattle.authority_table.specs.declared.rule.Rule.{Rule}
 use Rattle.authority_table.specs.Rule.{row_of, rows_of}
+use Rattle.authority_table.specs.Marks.{row_mark, AreMarks}
 
 first_none : (b : Bool) (x : Row) (xs : List Row) → cond b (x ∷ xs) xs ≡ [] → (b ≡ false) × (xs ≡ [])
 first_none true x xs e = cc
@@ -56,3 +59,46 @@ kept_at test rules at d lt front rear fails =
     parts (rows_of rules) at (row_of d) lt'
     ∙ sym (around test (rows_of rules) at (row_of d) lt' front rear
     ∙ ap (λ b. take at (rows_of rules) ++ cond (not b) (get_or (rows_of rules) at (row_of d) ∷ drop (at + 1) (rows_of rules)) (drop (at + 1) (rows_of rules))) here)
+
+-- rules of which none passes
+kept_rules : (test : Row → Bool) (rules : List Rule) → filter test (rows_of rules) ≡ [] → filter (λ x. not (test (row_of x))) rules ≡ rules
+kept_rules test [] e = refl
+kept_rules test (x ∷ rules) e =
+    let h = first_none (test (row_of x)) (row_of x) (filter test (rows_of rules)) e in
+    ap (λ b. cond (not b) (x ∷ filter (λ y. not (test (row_of y))) rules) (filter (λ y. not (test (row_of y))) rules)) h.0 ∙ ap (λ l. x ∷ l) (kept_rules test rules h.1)
+
+-- where none passes before a place, the rules before it are kept
+pub kept_before : (test : Row → Bool) (rules : List Rule) (from : ℕ) → from ≤ length rules → filter test (take from (rows_of rules)) ≡ [] → FiltersInPlace (λ x. not (test (row_of x))) rules rules from from
+kept_before test rules from within front = record {
+  front = sym (kept_rules test (take from rules) (ap (filter test) (sym (take-map row_of from rules)) ∙ front));
+  rest = refl;
+  behind = omega arith;
+  within = within;
+  long = refl;
+}
+
+map_swapped : {X Y : Type 0} (f : X → Y) (xs : List X) (i j : ℕ) (d : X) → i < length xs → j < length xs → map f (swap xs i j) ≡ swap (map f xs) i j
+map_swapped f xs i j d lt lt' =
+    let same : length (map f xs) ≡ length xs = length-map xs f in
+    ap (map f) (sym (swap_is xs i j d lt lt'))
+    ∙ (map-set f (set xs i (get_or xs j d)) j (get_or xs i d)
+    ∙ (ap (λ l. set l j (f (get_or xs i d))) (map-set f xs i (get_or xs j d))
+    ∙ (ap (λ x. set (set (map f xs) i x) j (f (get_or xs i d))) (sym (get_or-map f xs j d (f d) lt'))
+    ∙ (ap (λ x. set (set (map f xs) i (get_or (map f xs) j (f d))) j x) (sym (get_or-map f xs i d (f d) lt))
+    ∙ swap_is (map f xs) i j (f d) (omega (arith, lt, same)) (omega (arith, lt', same))))))
+
+-- two rules change places, and their marks
+pub marks_swapped : (rules new : List Rule) (marks after : List ℕ) (i j : ℕ) (d : Rule) → i < length rules → j < length rules → AreMarks (rows_of rules) marks → new ≡ swap rules i j → after ≡ swap marks i j → AreMarks (rows_of new) after
+marks_swapped rules new marks after i j d lt lt' marked is moved =
+    let same : length (rows_of rules) ≡ length rules = length-map rules row_of in
+    moved
+    ∙ (ap (λ l. swap l i j) marked
+    ∙ sym (ap (λ l. map row_mark (rows_of l)) is
+    ∙ (ap (map row_mark) (map_swapped row_of rules i j d lt lt') ∙ map_swapped row_mark (rows_of rules) i j (row_of d) (omega (arith, lt, same)) (omega (arith, lt', same)))))
+
+-- the rules behind a place are dropped, and their marks
+pub marks_cut : (rules new : List Rule) (marks after : List ℕ) (n : ℕ) → AreMarks (rows_of rules) marks → new ≡ take n rules → after ≡ take n marks → AreMarks (rows_of new) after
+marks_cut rules new marks after n marked is cut =
+    cut
+    ∙ (ap (take n) marked
+    ∙ (take-map row_mark n (rows_of rules) ∙ (ap (map row_mark) (take-map row_of n rules) ∙ sym (ap (λ l. map row_mark (rows_of l)) is))))

@@ -15,7 +15,7 @@ ghost use Rattle.authority_table.specs.Marks.{AreMarks};
 ghost use Rattle.authority_table.specs.declared.row_change.RowChange.TheVariants.{Remove};
 ghost use Rattle.policy_model.specs.declared.limits.TheConstants.{MOST_RULES};
 
-use crate::marks::mark_again;
+use crate::removal::remove;
 use crate::rooms;
 use crate::row_change::RowChange;
 use crate::rule::Rule;
@@ -84,48 +84,6 @@ fn change_in_place(rules: &mut Vec<Rule>, span: Span, selector: &Selector, chang
     ensures held { vec_capacity rules.new ≡ vec_capacity rules.old }
 {
     change_each(rules, span, selector, change)
-}
-
-fn remove(rules: &mut Vec<Rule>, marks: &mut Vec<u32>, span: Span, selector: &Selector)
-    requires span { IsSpan (selector_of selector.now) (rows_of rules.old.items) span }
-    requires marked { AreMarks (rows_of rules.old.items) marks.old.items }
-    requires room { length rules.old.items ≤ vec_capacity marks.old }
-    ensures rows { rows_of rules.new.items ≡ filter (λ r. not (selects (selector_of selector.now) r)) (rows_of rules.old.items) }
-    ensures fewer { length rules.new.items ≤ length rules.old.items }
-    ensures held { vec_capacity rules.new ≡ vec_capacity rules.old }
-    ensures marked { AreMarks (rows_of rules.new.items) marks.new.items }
-    ensures marks_held { vec_capacity marks.new ≡ vec_capacity marks.old }
-{
-    if span.to == span.from + 1 {
-        remove_at(rules, marks, span.from, selector)
-    } else {
-        remove_each(rules, selector);
-        mark_again(rules, marks)
-    }
-}
-
-/// Takes the rule at this place out if it is selected; no other one is.
-fn remove_at(rules: &mut Vec<Rule>, marks: &mut Vec<u32>, at: usize, selector: &Selector)
-    requires span { IsSpan (selector_of selector.now) (rows_of rules.old.items) (record { from = at; to = at + 1 }) }
-    requires marked { AreMarks (rows_of rules.old.items) marks.old.items }
-    ensures rows { rows_of rules.new.items ≡ filter (λ r. not (selects (selector_of selector.now) r)) (rows_of rules.old.items) }
-    ensures fewer { length rules.new.items ≤ length rules.old.items }
-    ensures held { vec_capacity rules.new ≡ vec_capacity rules.old }
-    ensures marked { AreMarks (rows_of rules.new.items) marks.new.items }
-    ensures marks_held { vec_capacity marks.new ≡ vec_capacity marks.old }
-{
-    if rules[at].is_selected(selector) {
-        drop(rules.remove(at));
-        marks.remove(at);
-    }
-}
-
-fn remove_each(rules: &mut Vec<Rule>, selector: &Selector)
-    ensures rows { rows_of rules.new.items ≡ filter (λ r. not (selects (selector_of selector.now) r)) (rows_of rules.old.items) }
-    ensures fewer { length rules.new.items ≤ length rules.old.items }
-    ensures held { vec_capacity rules.new ≡ vec_capacity rules.old }
-{
-    rules.retain(|rule| !rule.is_selected(selector));
 }
 
 fn change_each(rules: &mut [Rule], span: Span, selector: &Selector, change: &RowChange)

@@ -12,6 +12,7 @@ mod outcome;
 mod prepared;
 mod priority;
 mod rank;
+mod removal;
 mod rooms;
 mod row_change;
 mod rule;

@@ -1,17 +1,15 @@
 //! Short numbers of labels, one for each rule: those of a label are found without a look at the others.
 
-ghost use Rattle.std.specs.Prelude.{◌≡◌, ◌≢◌, ◌<◌, ◌≤◌, ℕ, List, length, get_or, vec_capacity};
+ghost use Rattle.std.specs.Prelude.{◌≡◌, ◌≢◌, ◌<◌, ◌≤◌, ℕ, List, length, get_or};
 ghost use Rattle.policy_model.specs.Rules.{Row};
 ghost use Rattle.policy_model.specs.Contents as model;
 ghost use Rattle.policy_model.specs.Contents.{by_label};
 ghost use Rattle.authority_table.specs.Label.{label_bytes};
-ghost use Rattle.authority_table.specs.Rule.{rows_of};
 ghost use Rattle.authority_table.specs.Spans.{IsSpan};
 ghost use Rattle.authority_table.specs.Marks as marks;
 ghost use Rattle.authority_table.specs.Marks.{AreMarks};
 
 use crate::label::Label;
-use crate::rule::Rule;
 use crate::span::Span;
 
 /// The mark of a label. Those of different labels are nearly always different.
@@ -67,16 +65,4 @@ fn end_of(marks: &[u32], from: usize, mark: u32) -> usize
         to -= 1;
     }
     to
-}
-
-/// Makes the marks anew, in the memory that they have.
-pub(crate) fn mark_again(rules: &[Rule], marks: &mut Vec<u32>)
-    requires { length rules.now ≤ vec_capacity marks.old }
-    ensures marked { AreMarks (rows_of rules.now) marks.new.items }
-    ensures held { vec_capacity marks.new ≡ vec_capacity marks.old }
-{
-    marks.clear();
-    for rule in rules {
-        marks.push_reserved(mark_of(&rule.label));
-    }
 }

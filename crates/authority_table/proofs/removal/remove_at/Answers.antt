@@ -6,7 +6,7 @@ use Rattle.authority_table.specs.Rule.{row_of, rows_of}
 use Rattle.authority_table.specs.Selector.{selector_of}
 use Rattle.authority_table.proofs.Removed.{removed_at, kept_at}
 use Rattle.authority_table.proofs.Marked.{marks_removed}
-use Rattle.authority_table.proofs.changes.remove_at.Goals as goal
+use Rattle.authority_table.proofs.removal.remove_at.Goals as goal
 
 pub returns-then-is_selected-clause-rows : goal.returns-then-is_selected-clause-rows
 returns-then-is_selected-clause-rows c =
