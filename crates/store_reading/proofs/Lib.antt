@@ -1,0 +1,10 @@
+mod Texts
+mod Kept
+mod NextReceipt
+mod NextRule
+mod FirstBad
+mod Added
+mod ReceiptSteps
+mod RuleSteps
+mod Unread
+mod Passed

@@ -1,0 +1,4 @@
+pub mod Readings
+pub mod Fault
+pub mod Tables
+pub mod Fields
