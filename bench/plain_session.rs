@@ -1,8 +1,8 @@
 //! The session of `gatekeeper` as a plain Rust loop: lines from a buffered reader, an added requirement read into a
-//! tree, edits kept by their key, one scan of the rules for an assessment, one write for each reply. It is what
-//! `bench/session.sh` measures the proved program against.
+//! tree, edits kept by their key, one scan of the rules for an assessment that the cache doesn't answer, a hash map for
+//! its cache, one write for each reply. It is what `bench/session.sh` measures the proved program against.
 
-use std::collections::BTreeMap;
+use std::collections::{BTreeMap, HashMap};
 use std::fs::File;
 use std::io::{self, BufRead, Write};
 use std::os::fd::AsFd;
@@ -202,11 +202,33 @@ fn requirement_of(text: &[u8]) -> Option<Requirement> {
     (parser.at == tokens.len()).then_some(requirement)
 }
 
+type Subject = (Vec<u8>, [u8; 20], Vec<u8>, u32);
+
+// The rank and the verdict of the rule that decided, if any did, and when this ends.
+#[derive(Clone)]
+struct Outcome {
+    rule: Option<(i64, u32, bool)>,
+    until: Option<u64>,
+}
+
+struct Begun {
+    subject: Subject,
+    outcome: Outcome,
+    at: u64,
+    cached: bool,
+    keeps: bool,
+    edits: u64,
+}
+
 // What was accepted under each key, by the text behind the key.
 #[derive(Default)]
 struct Desk {
     rules: Vec<Rule>,
     receipts: BTreeMap<Vec<u8>, (u32, Vec<u8>)>,
+    now: u64,
+    cache: HashMap<Subject, Outcome>,
+    edits: HashMap<Vec<u8>, u64>,
+    open: HashMap<u64, Begun>,
 }
 
 fn add(desk: &mut Desk, line: &[u8], out: &mut Vec<u8>) -> Option<()> {
@@ -221,20 +243,40 @@ fn add(desk: &mut Desk, line: &[u8], out: &mut Vec<u8>) -> Option<()> {
         return write!(out, "{word} edit={number} rules=1").ok();
     }
     let id = desk.receipts.len() as u32 + 1;
+    let priority: i64 = std::str::from_utf8(priority).ok()?.parse().ok()?;
     desk.receipts.insert(key.to_vec(), (id, content.to_vec()));
     desk.rules.push(Rule {
         id,
         kind: kind.to_vec(),
         allow: verdict == b"allow",
-        priority: std::str::from_utf8(priority).ok()?.parse().ok()?,
+        priority,
         expires: number(expiry),
         requirement,
     });
+    *desk.edits.entry(kind.to_vec()).or_default() += 1;
+    desk.cache.retain(|subject, kept| subject.0 != kind || kept.rule.is_some_and(|(rank, rule, _)| (-rank, rule) < (-priority, id)));
     write!(out, "ok edit={id} rules=1").ok()
 }
 
-fn assess(rules: &[Rule], now: u64, line: &[u8], out: &mut Vec<u8>) -> Option<()> {
-    let mut words = line.split(|b| *b == b' ').skip(1);
+fn judge(desk: &Desk, subject: &Subject) -> Outcome {
+    let (kind, hash, identifier, platform) = subject;
+    let mut best: Option<&Rule> = None;
+    for rule in &desk.rules {
+        let applies = rule.kind == *kind
+            && rule.expires.is_none_or(|end| desk.now < end)
+            && rule.requirement.means_true(hash, identifier, *platform);
+        if applies && best.is_none_or(|found| (-rule.priority, rule.id) < (-found.priority, found.id)) {
+            best = Some(rule);
+        }
+    }
+    match best {
+        Some(rule) => Outcome { rule: Some((rule.priority, rule.id, rule.allow)), until: rule.expires },
+        None => Outcome { rule: None, until: Some(desk.now + 60) },
+    }
+}
+
+// KIND, a subject, and nocache or nothing
+fn begin<'a>(desk: &Desk, mut words: impl Iterator<Item = &'a [u8]>) -> Option<Begun> {
     let kind = words.next()?;
     let hash = hash_of(words.next()?)?;
     let identifier = words.next()?;
@@ -242,21 +284,73 @@ fn assess(rules: &[Rule], now: u64, line: &[u8], out: &mut Vec<u8>) -> Option<()
     if identifier.is_empty() || identifier.len() > 256 || platform > 255 {
         return None;
     }
-    let mut best: Option<&Rule> = None;
-    for rule in rules {
-        let applies = rule.kind == kind
-            && rule.expires.is_none_or(|end| now < end)
-            && rule.requirement.means_true(&hash, identifier, platform);
-        if applies && best.is_none_or(|found| (-rule.priority, rule.id) < (-found.priority, found.id)) {
-            best = Some(rule);
+    let keeps = words.next().is_none();
+    let subject = (kind.to_vec(), hash, identifier.to_vec(), platform);
+    let kept = desk.cache.get(&subject).filter(|kept| kept.until.is_none_or(|end| desk.now < end));
+    let cached = kept.is_some();
+    let outcome = kept.cloned().unwrap_or_else(|| judge(desk, &subject));
+    let edits = desk.edits.get(kind).copied().unwrap_or(0);
+    Some(Begun { subject, outcome, at: desk.now, cached, keeps, edits })
+}
+
+fn finish(desk: &mut Desk, begun: Begun, out: &mut Vec<u8>) -> Option<()> {
+    let (at, now) = (begun.at, desk.now);
+    let stands = desk.cache.get(&begun.subject).is_some_and(|kept| kept.until.is_none_or(|end| now < end));
+    let words = if begun.cached {
+        "source=cache cache=none"
+    } else if !begun.keeps {
+        "source=rules cache=inhibited"
+    } else if begun.edits != desk.edits.get(&begun.subject.0).copied().unwrap_or(0) {
+        "source=rules cache=moved"
+    } else if begun.outcome.until.is_some_and(|end| now >= end) {
+        "source=rules cache=expired"
+    } else if stands {
+        "source=rules cache=twice"
+    } else {
+        desk.cache.insert(begun.subject, begun.outcome.clone());
+        "source=rules cache=kept"
+    };
+    match begun.outcome.rule {
+        Some((_, rule, allow)) => {
+            let verdict = if allow { "accepted" } else { "rejected" };
+            write!(out, "{verdict} at={at} rule={rule} latent=none label=- override=none {words}").ok()
         }
+        None => write!(out, "rejected at={at} rule=none latent=none label=no%20matching%20rule override=none {words}").ok(),
     }
-    match best {
-        Some(rule) => {
-            let verdict = if rule.allow { "accepted" } else { "rejected" };
-            write!(out, "{verdict} at={now} rule={} latent=none label=- override=none source=rules cache=off", rule.id).ok()
+}
+
+fn answer(desk: &mut Desk, line: &[u8], out: &mut Vec<u8>) -> Option<()> {
+    if line.starts_with(b"add ") {
+        return add(desk, line, out);
+    }
+    let mut words = line.split(|b| *b == b' ');
+    match words.next()? {
+        b"tick" => {
+            desk.now = desk.now.max(number(words.next()?)?);
+            write!(out, "now={}", desk.now).ok()
         }
-        None => write!(out, "rejected at={now} rule=none latent=none label=no%20matching%20rule override=none source=rules cache=off").ok(),
+        b"assess" => {
+            let begun = begin(desk, words)?;
+            finish(desk, begun, out)
+        }
+        b"begin" => {
+            let slot = number(words.next()?)?;
+            let begun = begin(desk, words)?;
+            if desk.open.contains_key(&slot) {
+                return write!(out, "refused session 21 SlotBusy").ok();
+            }
+            if desk.open.len() >= 50 {
+                return write!(out, "refused session 23 SlotsFull").ok();
+            }
+            let at = begun.at;
+            desk.open.insert(slot, begun);
+            write!(out, "begun {slot} at={at}").ok()
+        }
+        b"finish" => match desk.open.remove(&number(words.next()?)?) {
+            Some(begun) => finish(desk, begun, out),
+            None => write!(out, "refused session 22 SlotEmpty").ok(),
+        },
+        _ => None,
     }
 }
 
@@ -265,7 +359,6 @@ fn main() -> io::Result<()> {
     // past std's line buffer, so that each reply is one write
     let mut output = File::from(io::stdout().as_fd().try_clone_to_owned()?);
     let mut desk = Desk::default();
-    let mut now = 0;
     let mut line = Vec::new();
     let mut reply = Vec::new();
     loop {
@@ -277,17 +370,7 @@ fn main() -> io::Result<()> {
         if line.last() == Some(&b'\n') {
             line.pop();
         }
-        let answered = if let Some(moment) = line.strip_prefix(b"tick ") {
-            number(moment).map(|at| {
-                now = now.max(at);
-                let _ = write!(reply, "now={now}");
-            })
-        } else if line.starts_with(b"add ") {
-            add(&mut desk, &line, &mut reply)
-        } else {
-            assess(&desk.rules, now, &line, &mut reply)
-        };
-        if answered.is_none() {
+        if answer(&mut desk, &line, &mut reply).is_none() {
             reply.extend_from_slice(b"refused line 1 BadLine column=1");
         }
         reply.push(b'\n');
