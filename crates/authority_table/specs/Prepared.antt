@@ -7,7 +7,6 @@ use Rattle.policy_model.specs.Rules.{Row, Rank, Kind, same_kind, rank_of, first}
 use Rattle.policy_model.specs.Tables.{Answer, no_rule, table_full, disable_full}
 use Rattle.policy_model.specs.Changes.{rows_after}
 use Rattle.policy_model.specs.Refusals.{full_rows, least_id}
-use Rattle.authority_table.specs.declared.rule.Rule.{Rule}
 use Rattle.authority_table.specs.declared.fault.PlanFault.{PlanFault}
 use Rattle.authority_table.specs.declared.fault.PlanFault.TheVariants.{TableFull, NoRule, DisableFull, OutOfMemory}
 use Rattle.authority_table.specs.declared.rooms.Room.{Room}

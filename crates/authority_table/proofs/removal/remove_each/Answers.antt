@@ -1,8 +1,8 @@
 use Rattle.std.proofs.Common.{◌≡◌, ◌<◌, ◌≤◌, length, take, length-take-le, refl, sym, ap, ◌∙◌, arith}
-use Rattle.std.specs.Prelude.{true, false, not}
+use Rattle.std.specs.Prelude.{not}
 use Rattle.std.proofs.lemmas.List.Filters.{FiltersInPlace-more_swap, FiltersInPlace-more_no, FiltersInPlace-all}
 use Rattle.policy_model.specs.Changes.{selects}
-use Rattle.authority_table.specs.Rule.{row_of, rows_of}
+use Rattle.authority_table.specs.Rule.{rows_of}
 use Rattle.authority_table.specs.Selector.{selector_of}
 use Rattle.authority_table.proofs.Changed.{kept_rows}
 use Rattle.authority_table.proofs.Removed.{kept_before, marks_swapped, marks_cut}
