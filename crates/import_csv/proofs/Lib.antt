@@ -1,0 +1,6 @@
+pub mod HeaderFields
+pub mod RightRows
+pub mod OneRow
+pub mod OneImport
+pub mod ComesTwice
+pub mod Refused
