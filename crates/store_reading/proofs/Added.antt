@@ -16,6 +16,7 @@ module _ (rs : List RawReceipt) (h : AcceptsReceipts rs) where
     pub inside : k < length rs
     pub adds : (d : RawReceipt) → IsAddText (get_or rs k d).content
 
+  -- numbers are places, counted from 1
   pub at_place : (n : ℤ) → IsAdded rs n → HasPlace n
   at_place n a =
       let k = a.among.0 in
@@ -28,6 +29,7 @@ module _ (rs : List RawReceipt) (h : AcceptsReceipts rs) where
         adds = λ d. subst (λ (r : RawReceipt). IsAddText r.content) (sym same ∙ get_or_default rs k a.receipt d lt) a.adds;
       }
 
+  -- the receipt at the number's place adds
   pub adds_there : (n : ℤ) (count : ℕ) → pos count ≡ n → IsAdded rs n → (count - 1 < length rs) × ((d : RawReceipt) → IsAddText (get_or rs (count - 1) d).content)
   adds_there n count e a =
       let p = at_place n a in
@@ -35,6 +37,7 @@ module _ (rs : List RawReceipt) (h : AcceptsReceipts rs) where
       let place : p.k ≡ count - 1 = omega (arith, same) in
       (omega (arith, same, p.inside), λ d. subst (λ k. IsAddText (get_or rs k d).content) place (p.adds d))
 
+  -- a receipt there that adds is the rule's
   pub is_added : (n : ℤ) (count : ℕ) (r : RawReceipt) → pos count ≡ n → 1 ≤ count → count - 1 < length rs → get_or rs (count - 1) r ≡ r → IsAddText r.content → IsAdded rs n
   is_added n count r e least lt same adds = record {
     receipt = r;
@@ -51,14 +54,17 @@ module _ (rows : List code.RawReceipt) (h : AcceptsReceipts (plain_receipts rows
   there : get_or (plain_receipts rows) k (plain_receipt row) ≡ plain_receipt row
   there = get_or-map plain_receipt rows k row (plain_receipt row) item.0 ∙ ap plain_receipt (sym (item.1 row))
 
+  -- its content is a canonical text
   pub its_content : IsContentText row.content
   its_content = (subst IsStoredReceipt there (h.each k (plain_receipt row) inside)).content
 
+  -- where it adds, the rule was added
   pub it_is_added : (n : ℤ) (count : ℕ) → k ≡ count - 1 → pos count ≡ n → 1 ≤ count → IsAddText row.content → IsAdded (plain_receipts rows) n
   it_is_added n count place e least adds =
       is_added (plain_receipts rows) h n count (plain_receipt row) e least (subst (λ i. i < length (plain_receipts rows)) place inside)
       (subst (λ i. get_or (plain_receipts rows) i (plain_receipt row) ≡ plain_receipt row) place there) adds
 
+  -- and the other way round
   pub it_adds : (n : ℤ) (count : ℕ) → k ≡ count - 1 → pos count ≡ n → IsAdded (plain_receipts rows) n → IsAddText row.content
   it_adds n count place e a =
       subst (λ (r : RawReceipt). IsAddText r.content) (subst (λ i. get_or (plain_receipts rows) i (plain_receipt row) ≡ plain_receipt row) place there)

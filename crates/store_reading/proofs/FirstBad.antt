@@ -9,6 +9,7 @@ module _ {X Y : Type 0} (f : X → Y) (rows : List X) (at : ℕ) (row : X) (lt :
   pub front_more : map f (take (at + 1) rows) ≡ map f (take at rows) ++ f row ∷ []
   front_more = ap (map f) (take_more rows at row lt ∙ ap (λ r. take at rows ++ r ∷ []) is) ∙ map-append f (take at rows) (row ∷ [])
 
+  -- with the row at this place the front is good no more
   pub first_bad : (Good : List Y → Type 0) → Good (map f (take at rows)) → (Good (map f (take at rows) ++ f row ∷ []) → ⊥) → IsFirstBad Good (map f rows) (f row)
   first_bad Good good bad = record {
     before = map f (take at rows);

@@ -27,12 +27,14 @@ other_false a b h = by (bytes_eq a b) refl
 abbrev pub IsOther : List ℕ → RawReceipt → Type 0
 IsOther key s = s.key ≢ key
 
+-- where nothing is kept for a key, each stored row has another
 pub all_others : (key : List ℕ) (rs : List Receipt) → kept rs key ≡ None → All (IsOther key) (map raw_receipt rs)
 all_others key [] h = All-nil (IsOther key)
 all_others key (r ∷ rs) h =
     let both = none_here (bytes_eq r.key key) r (kept rs key) h in
     All-cons (IsOther key) (raw_receipt r) (map raw_receipt rs) (other_bytes r.key key both.0) (all_others key rs both.1)
 
+-- and the other way round
 pub none_kept : (key : List ℕ) (rs : List Receipt) → All (IsOther key) (map raw_receipt rs) → kept rs key ≡ None
 none_kept key [] h = refl
 none_kept key (r ∷ rs) h =

@@ -22,6 +22,7 @@ push_cases P xs x h p k d lt = elim (cases_order k (length xs)) as (λ _. P k (g
 ]
 
 module _ (rs : List RawReceipt) (r : RawReceipt) where
+  -- the next number under a new key is accepted
   pub one_more : AcceptsReceipts rs → length rs < MOST_RECEIPTS → IsReceiptAt (length rs + 1) r → All (IsOther r.key) rs → AcceptsReceipts (rs ++ r ∷ [])
   one_more h few is others = record {
     numbered = push_cases (λ k (s : RawReceipt). s.num ≡ pos (k + 1)) rs r h.numbered is.numbered;
@@ -31,15 +32,7 @@ module _ (rs : List RawReceipt) (r : RawReceipt) where
   }
 
   module _ (h : AcceptsReceipts (rs ++ r ∷ [])) where
-    pub had_room : length rs < MOST_RECEIPTS
-    had_room = omega (arith, length_push rs r, h.most)
-
-    pub last_fits : IsReceiptAt (length rs + 1) r
-    last_fits = record {
-      numbered = subst (λ (x : RawReceipt). x.num ≡ pos (length rs + 1)) (get_or_push rs r r (length rs) refl) (h.numbered (length rs) r (omega (arith, length_push rs r)));
-      stored = subst IsStoredReceipt (get_or_push rs r r (length rs) refl) (h.each (length rs) r (omega (arith, length_push rs r)));
-    }
-
+    -- the last one has a new key
     pub last_is_new : All (IsOther r.key) rs
     last_is_new k d lt =
         subst (λ (b : RawReceipt). (get_or rs k d).key ≢ b.key) (get_or_push rs r d (length rs) refl)

@@ -13,6 +13,7 @@ abbrev pub IsBelow : ℤ → RawRule → Type 0
 IsBelow id s = s.id <ℤ id
 
 module _ (rs : List RawReceipt) (rules : List RawRule) (r : RawRule) where
+  -- a greater number is accepted
   pub one_more : AcceptsRules rs rules → length rules < MOST_RULES → All (IsBelow r.id) rules → IsStoredRule rs r → AcceptsRules rs (rules ++ r ∷ [])
   one_more h few below is = record {
     rising = all_pairs_push (λ (a b : RawRule). a.id <ℤ b.id) rules r h.rising (λ k d lt. below k d lt);
@@ -21,9 +22,7 @@ module _ (rs : List RawReceipt) (rules : List RawRule) (r : RawRule) where
   }
 
   module _ (h : AcceptsRules rs (rules ++ r ∷ [])) where
-    pub had_room : length rules < MOST_RULES
-    had_room = omega (arith, length_push rules r, h.most)
-
+    -- the last one is a stored rule, and has the greatest number
     pub last_fits : IsStoredRule rs r
     last_fits = subst (IsStoredRule rs) (get_or_push rules r r (length rules) refl) (h.each (length rules) r (omega (arith, length_push rules r)))
 

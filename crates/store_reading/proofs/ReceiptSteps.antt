@@ -5,12 +5,11 @@ use Rattle.std.specs.Option.{option_copied}
 use Rattle.std.specs.Borrow.{Bor}
 use Rattle.std.proofs.lemmas.Bool.{both_ways}
 use Rattle.std.proofs.lemmas.List.{map-append, length-map}
-use Rattle.std.proofs.lemmas.List.Elements.{All-nil}
 use Rattle.policy_model.specs.Tables as model
 use Rattle.policy_model.specs.Edits.{kept}
 use Rattle.policy_model.specs.declared.limits.TheConstants.{MOST_RECEIPTS}
 use Rattle.store_model.specs.Raw.{RawReceipt}
-use Rattle.store_model.specs.Accepted.{IsStoredReceipt, AcceptsReceipts}
+use Rattle.store_model.specs.Accepted.{AcceptsReceipts}
 use Rattle.store_model.specs.Stored.{raw_receipt}
 use Rattle.raw_tables.specs.declared.receipt.RawReceipt as code
 use Rattle.raw_tables.specs.Raw.{plain_receipt, plain_receipts}
@@ -22,24 +21,16 @@ use Rattle.store_reading.specs.declared.fault.StoreFault.TheVariants.{BadStore}
 use Rattle.store_reading.specs.Fault.{IsBadReceipt}
 use Rattle.store_reading.specs.Readings.{raw_receipts, IsReceiptAt, IsNextReceipt, HoldsReceipts}
 use Rattle.store_reading.proofs.Kept.{IsOther, all_others, none_kept}
-use Rattle.store_reading.proofs.NextReceipt.{one_more, had_room, last_fits, last_is_new}
+use Rattle.store_reading.proofs.NextReceipt.{one_more, last_is_new}
 use Rattle.store_reading.proofs.FirstBad.{front_more, first_bad}
 
-no_receipts : AcceptsReceipts []
-no_receipts = record { numbered = λ k d lt. absurd (omega (arith, lt)); most = omega arith; each = All-nil IsStoredReceipt; keys = λ i j d lt in'. absurd (omega (arith, in')) }
-
-pub holds_none : (receipts : List Receipt) → receipts ≡ [] → HoldsReceipts [] receipts
-holds_none receipts e = record { accepted = no_receipts; stored = ap raw_receipts e }
-
-pub same_length : (receipts : List Receipt) → length (raw_receipts receipts) ≡ length receipts
+-- a row for each receipt
+same_length : (receipts : List Receipt) → length (raw_receipts receipts) ≡ length receipts
 same_length receipts = length-map (receipts_of receipts) raw_receipt ∙ length-map receipts receipt_of
-
--- where the next row is accepted, there is room for its receipt
-pub has_room : (receipts : List Receipt) (r : RawReceipt) → AcceptsReceipts (raw_receipts receipts ++ r ∷ []) → length receipts < MOST_RECEIPTS
-has_room receipts r h = omega (arith, had_room (raw_receipts receipts) r h, same_length receipts)
 
 -- a receipt is found where one is kept
 module _ (found : Option (Bor Receipt)) (is : Bool) (k : Option model.Receipt) (same : option_map receipt_of (option_copied found) ≡ k) (tells : is ≡ is_some found) where
+  -- found, so one is kept
   pub was_kept : is ≡ true → k ≢ None
   was_kept t none = some_here found same tells
     where
@@ -47,6 +38,7 @@ module _ (found : Option (Bor Receipt)) (is : Bool) (k : Option model.Receipt) (
       some_here None e s = both_ways is s t
       some_here (Some x) e s = let h : Some (receipt_of x.now) ≡ None = e ∙ none in cc
 
+  -- not found, so none is
   pub was_not_kept : is ≡ false → k ≡ None
   was_not_kept f = none_here found same tells
     where
@@ -63,10 +55,8 @@ module _ (receipts : List Receipt) (row : RawReceipt) (number : ℕ) (next : num
   at_end : number ≡ length (raw_receipts receipts) + 1
   at_end = omega (arith, next, same_length receipts)
 
-  pub not_read : (IsReceiptAt number row → ⊥) → AcceptsReceipts (raw_receipts receipts ++ row ∷ []) → ⊥
-  not_read other h = other (subst (λ n. IsReceiptAt n row) (sym at_end) (last_fits (raw_receipts receipts) row h))
-
   module _ (receipt : Receipt) (stored : raw_receipt (receipt_of receipt) ≡ row) where
+    -- under a new key it is accepted
     pub is_next : AcceptsReceipts (raw_receipts receipts) → length receipts < MOST_RECEIPTS → IsReceiptAt number row → kept (receipts_of receipts) (key_bytes receipt.key) ≡ None
         → AcceptsReceipts (raw_receipts receipts ++ row ∷ []) × IsNextReceipt receipts row receipt
     is_next h few fits new = (
@@ -75,13 +65,12 @@ module _ (receipts : List Receipt) (row : RawReceipt) (number : ℕ) (next : num
       record { stored = stored; new = new },
     )
 
+    -- under a key that is kept it isn't
     pub is_repeat : kept (receipts_of receipts) (key_bytes receipt.key) ≢ None → AcceptsReceipts (raw_receipts receipts ++ row ∷ []) → ⊥
     is_repeat old h = old (none_kept (key_bytes receipt.key) (receipts_of receipts) (subst (λ (r : RawReceipt). All (IsOther r.key) (raw_receipts receipts)) (sym stored) (last_is_new (raw_receipts receipts) row h)))
 
 module _ (rows : List code.RawReceipt) (at : ℕ) (row : code.RawReceipt) (lt : at < length rows) (is : get_or rows at row ≡ row) (receipts : List Receipt) (h : HoldsReceipts (plain_receipts (take at rows)) receipts) where
-  pub so_far : AcceptsReceipts (raw_receipts receipts)
-  so_far = subst AcceptsReceipts (sym h.stored) h.accepted
-
+  -- the rows with the next one are accepted
   pub one_further : (receipt : Receipt) → AcceptsReceipts (raw_receipts receipts ++ plain_receipt row ∷ []) → IsNextReceipt receipts (plain_receipt row) receipt → HoldsReceipts (plain_receipts (take (at + 1) rows)) (receipts ++ receipt ∷ [])
   one_further receipt fits next =
       let front = front_more plain_receipt rows at row lt is in
@@ -95,5 +84,6 @@ module _ (rows : List code.RawReceipt) (at : ℕ) (row : code.RawReceipt) (lt : 
             ∙ same;
       }
 
+  -- or the next one is the first that isn't
   pub is_bad : (AcceptsReceipts (raw_receipts receipts ++ plain_receipt row ∷ []) → ⊥) → IsBadReceipt (plain_receipts rows) (BadStore (places.Receipt row.num))
   is_bad bad = (plain_receipt row, refl, first_bad plain_receipt rows at row lt is AcceptsReceipts h.accepted (λ g. bad (subst (λ l. AcceptsReceipts (l ++ plain_receipt row ∷ [])) (sym h.stored) g)))

@@ -4,14 +4,13 @@ use Rattle.std.specs.Prelude.{All, map, ℤ, ◌<ℤ◌, ◌↔◌, Option, Some
 use Rattle.std.proofs.lemmas.Int.{ints}
 use Rattle.std.proofs.lemmas.Bool.{cases_order}
 use Rattle.std.proofs.lemmas.List.{map-append, length-map, get_or-map}
-use Rattle.std.proofs.lemmas.List.Elements.{All-nil, All-push}
-use Rattle.policy_model.specs.declared.limits.TheConstants.{MOST_RULES}
+use Rattle.std.proofs.lemmas.List.Elements.{All-push}
 use Rattle.policy_model.specs.Rules.{Row}
 use Rattle.req_grammar.specs.Readings.{IsRequirementText}
 use Rattle.authority_table.specs.declared.rule.Rule.{Rule}
 use Rattle.authority_table.specs.Rule.{row_of, rows_of}
 use Rattle.store_model.specs.Raw.{RawReceipt, RawRule}
-use Rattle.store_model.specs.Accepted.{IsStoredRule, AcceptsRules}
+use Rattle.store_model.specs.Accepted.{AcceptsRules}
 use Rattle.store_model.specs.Stored.{raw_rule}
 use Rattle.raw_tables.specs.declared.rule.RawRule as code
 use Rattle.raw_tables.specs.Raw.{plain_rule, plain_rules}
@@ -19,31 +18,15 @@ use Rattle.store_reading.specs.declared.fault.StoreRow.TheVariants as places
 use Rattle.store_reading.specs.declared.fault.StoreFault.TheVariants.{BadStore}
 use Rattle.store_reading.specs.Fault.{IsBadRule}
 use Rattle.store_reading.specs.Readings.{Reads, AreRising, IsRuleOf, HoldsRules}
-use Rattle.store_reading.proofs.NextRule.{IsBelow, had_room}
+use Rattle.store_reading.proofs.NextRule.{IsBelow}
 use Rattle.store_reading.proofs.FirstBad.{front_more, first_bad}
 
 -- the tree is that of the text
 abbrev HasTree : Row → Type 0
 HasTree r = ∥ IsRequirementText r.text r.tree ∥₁
 
-no_rules : (rs : List RawReceipt) → AcceptsRules rs []
-no_rules rs = record { rising = λ i j d lt in'. absurd (omega (arith, in')); most = omega arith; each = All-nil (IsStoredRule rs) }
-
-pub holds_none : (rs : List RawReceipt) (rules : List Rule) → rules ≡ [] → HoldsRules rs [] rules
-holds_none rs rules e = record {
-  accepted = no_rules rs;
-  stored = ap (λ l. map raw_rule (rows_of l)) e;
-  trees = subst (λ l. All HasTree (rows_of l)) (sym e) (All-nil HasTree);
-}
-
-same_length : (rules : List Rule) → length (map raw_rule (rows_of rules)) ≡ length rules
-same_length rules = length-map (rows_of rules) raw_rule ∙ length-map rules row_of
-
 module _ (rs : List RawReceipt) (rows : List code.RawRule) (at : ℕ) (row : code.RawRule) (lt : at < length rows) (is : get_or rows at row ≡ row) (rules : List Rule) (h : HoldsRules rs (plain_rules (take at rows)) rules) where
-  -- where the next row is accepted, there is room for its rule
-  pub has_room : AcceptsRules rs (plain_rules (take at rows) ++ plain_rule row ∷ []) → length rules < MOST_RULES
-  has_room fits = omega (arith, had_room rs (plain_rules (take at rows)) (plain_rule row) fits, same_length rules, ap length h.stored)
-
+  -- the rows with the next one are accepted
   pub one_further : (rule : Rule) → AcceptsRules rs (plain_rules (take at rows) ++ plain_rule row ∷ []) → IsRuleOf (plain_rule row) rule → HoldsRules rs (plain_rules (take (at + 1) rows)) (rules ++ rule ∷ [])
   one_further rule fits next =
       let front = front_more plain_rule rows at row lt is in
@@ -58,6 +41,7 @@ module _ (rs : List RawReceipt) (rows : List code.RawRule) (at : ℕ) (row : cod
         trees = subst (All HasTree) (sym (map-append row_of rules (rule ∷ []))) (All-push HasTree (rows_of rules) (row_of rule) h.trees next.tree);
       }
 
+  -- or the next one is the first that isn't
   pub is_bad : (AcceptsRules rs (plain_rules (take at rows) ++ plain_rule row ∷ []) → ⊥) → IsBadRule rs (plain_rules rows) (BadStore (places.Rule row.id))
   is_bad bad = (plain_rule row, refl, first_bad plain_rule rows at row lt is (AcceptsRules rs) h.accepted bad)
 
@@ -69,12 +53,10 @@ widen Is f g (Err e) h = tt
 
 -- rising numbers are all below a number where the last one is
 module _ (rules : List RawRule) (id : ℤ) where
-  pub above_none : length rules ≡ 0 → All (IsBelow id) rules
-  above_none none k d lt = absurd (omega (arith, none, lt))
-
   between : (a b : ℤ) → a <ℤ b → b <ℤ id → a <ℤ id
   between a b h k = grind (arith, ints, h, k)
 
+  -- the last one is the greatest
   pub above_last : (last : RawRule) → 1 ≤ length rules → ((d : RawRule) → get_or rules (length rules - 1) d ≡ last) → AreRising rules → (last.id <ℤ id) ↔ All (IsBelow id) rules
   above_last last some is rising = (
     (λ lt k d inside. elim (cases_order k (length rules - 1)) as (λ _. IsBelow id (get_or rules k d)) [

@@ -26,6 +26,7 @@ module _ (text : List ℕ) (b : Bool) (is : b ≡ begins text) where
     (λ k. absurd (both_ways (begins text) (ap begins h.canonical ∙ other) (ap begins k.1.canonical ∙ add_begins k.0))),
   )
 
+  -- a canonical text that begins so is that of an add, and no other
   pub is_add : (c : Content) → IsTextOf c text → IsTrue b ↔ IsAddText text
   unfolding content_text
   is_add (add n) h = by_add n h

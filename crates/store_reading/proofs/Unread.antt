@@ -11,6 +11,7 @@ use Rattle.line_words.specs.declared.fault.LineFault.TheVariants.{BadLine, BadRe
 use Rattle.rule_edits.specs.Reads.{Parses}
 use Rattle.store_reading.specs.Readings.{IsTreeText}
 
+-- a fault that isn't memory running out is the text's
 pub is_unread : ((source : List ℕ) (fault : text.TextFault) (tree : Tree) → fault ≢ text_variants.OutOfMemory → FailsText source fault → IsRequirementText source tree → ⊥) → (source : List ℕ) (fault : LineFault) → fault ≢ OutOfMemory → Parses (Err fault) source → IsTreeText source → ⊥
 is_unread apart source (BadRequirement fault) other parses t = apart source fault t.parses.0 parses.1 parses.0 t.parses.1
 is_unread apart source OutOfMemory other parses t = other refl
