@@ -7,7 +7,7 @@ use Rattle.policy_model.specs.Rules.{Kind}
 use Rattle.policy_model.specs.Tables.{Tables}
 use Rattle.policy_model.specs.Outcomes.{Ask, Verdict, decided, verdict_by}
 use Rattle.policy_model.specs.ReplyTexts.{Origin, rules, cache, unsigned}
-use Rattle.policy_model.specs.History.{Event, Entry, Opening, ask, offer, tables_of, now_of, ask_answer, HasOwnIds}
+use Rattle.policy_model.specs.History.{Event, Entry, Opening, ask, offer, tables_of, ask_answer, HasOwnIds}
 use Rattle.assess.specs.Laws.{SnapshotsJudgeAlike}
 use Rattle.object_model.specs.Objects.{is_unexpired, is_for}
 use Rattle.object_model.specs.Kept.{objects_of}

@@ -1,5 +1,5 @@
 -- A desk goes on with its history, and answers by it.
-use Rattle.std.proofs.Common.{◌≡◌, List, [], ◌∷◌, ◌++◌, refl, sym, ap, ◌∙◌, Option, Some, None}
+use Rattle.std.proofs.Common.{◌≡◌, List, refl, sym, ap, ◌∙◌, Option, Some, None}
 use Rattle.std.specs.Prelude.{IsSome, false}
 use Rattle.std.proofs.lemmas.Bool.{both_ways}
 use Rattle.req_tree.specs.Subject.{Subject}
@@ -9,8 +9,8 @@ use Rattle.policy_model.specs.Tables.{Tables, Receipt, Answer, Effect}
 use Rattle.policy_model.specs.Refusals.{refusal}
 use Rattle.policy_model.specs.Edits.{does, does_at, at_new, kept}
 use Rattle.policy_model.specs.Outcomes.{Ask, Verdict, verdict, verdict_on, verdict_by, outcome_by}
-use Rattle.policy_model.specs.History.{Event, Opening, tables_step, now_step, tables_of, now_of, ask_answer, HasOwnIds}
-use Rattle.policy_model.specs.Laws.{TablesGoOn, MomentGoesOn, OutcomeIsOne}
+use Rattle.policy_model.specs.History.{Event, Opening, tables_of, now_of, ask_answer, HasOwnIds}
+use Rattle.policy_model.specs.Laws.{OutcomeIsOne}
 use Rattle.authority_table.specs.declared.found.Found.{Found}
 use Rattle.authority_table.specs.Found.{IsFound, governing_row, latent_row}
 use Rattle.desk_state.specs.declared.desk.Desk.{Desk}

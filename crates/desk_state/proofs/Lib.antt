@@ -1,6 +1,8 @@
 mod GoesOn
-mod Places
 mod Made
 mod Refused
 mod Assessed
 mod Purged
+mod Edited
+mod Loads
+mod Keeps

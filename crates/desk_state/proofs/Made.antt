@@ -12,17 +12,17 @@ use Rattle.policy_model.specs.History.{edit, Opening, HasOwnIds}
 use Rattle.policy_model.specs.Laws.{IdsStayOwn}
 use Rattle.authority_table.specs.declared.prepared.Prepared.{Prepared}
 use Rattle.desk_state.specs.declared.plan.Plan.{Plan}
-use Rattle.desk_state.specs.declared.receipt.Receipt as code
-use Rattle.desk_state.specs.Receipt.{receipt_of}
+use Rattle.edit_receipts.specs.declared.receipts.Receipt as code
+use Rattle.edit_receipts.specs.Receipts.{receipt_of}
 use Rattle.desk_state.specs.Plan.{Leaves, count_in, rows_by, IsPlanned, with_plan, next_receipt}
 
 -- what a planned change of rows leaves
 
-leaves_rows : (p : Option Prepared) (rows after touched : List Row) → Leaves p rows after touched → rows_by p rows ≡ after
+pub leaves_rows : (p : Option Prepared) (rows after touched : List Row) → Leaves p rows after touched → rows_by p rows ≡ after
 leaves_rows None rows after touched h = h.0
 leaves_rows (Some change) rows after touched h = h.leaves
 
-leaves_count : (p : Option Prepared) (rows after touched : List Row) → Leaves p rows after touched → count_in p ≡ length touched
+pub leaves_count : (p : Option Prepared) (rows after touched : List Row) → Leaves p rows after touched → count_in p ≡ length touched
 leaves_count None rows after touched h = sym (ap length h.1)
 leaves_count (Some change) rows after touched h = h.count
 

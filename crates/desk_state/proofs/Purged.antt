@@ -1,5 +1,5 @@
 -- What an edit leaves of the outcomes that are kept.
-use Rattle.std.proofs.Common.{◌≡◌, ℕ, ◌+◌, ◌≤◌, List, [], length, refl, sym, ap, ◌∙◌, subst, arith, Option, Some, None}
+use Rattle.std.proofs.Common.{◌≡◌, ℕ, ◌+◌, ◌≤◌, List, [], refl, sym, ap, ◌∙◌, subst, arith, Option, Some, None}
 use Rattle.std.specs.Prelude.{IsSome, false}
 use Rattle.std.proofs.lemmas.Bool.{both_ways}
 use Rattle.req_tree.specs.Facts.{Facts}
@@ -90,10 +90,10 @@ pub new_so : (t : Tables) (e : Edit) (x y : Cache) (g : Option Answer) → None 
 new_so t e x y g k is = subst (λ d. IsPurged d x y g) (ap (λ o. does_at o e t) k) is
 
 -- a desk as plain data, part by part
-abbrev parts : Tables → Facts → ℕ → Cache → Opening
+abbrev pub parts : Tables → Facts → ℕ → Cache → Opening
 parts t f n x = record { tables = t; facts = f; now = n; entries = x.0; counts = x.1 }
 
-parts_are : (t u : Tables) (f g : Facts) (n m : ℕ) (x y : Cache) → t ≡ u → f ≡ g → n ≡ m → x ≡ y → parts t f n x ≡ parts u g m y
+pub parts_are : (t u : Tables) (f g : Facts) (n m : ℕ) (x y : Cache) → t ≡ u → f ≡ g → n ≡ m → x ≡ y → parts t f n x ≡ parts u g m y
 parts_are t u f g n m x y a b c d = ap (λ z. parts z f n x) a ∙ ap (λ z. parts u z n x) b ∙ ap (λ z. parts u g z x) c ∙ ap (λ z. parts u g m z) d
 
 answered_cache : (d : Effect) (x y : Cache) (g : Option Answer) → IsSome g → IsPurged d x y g → y ≡ edited_cache d.touched x

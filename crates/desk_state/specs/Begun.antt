@@ -1,5 +1,5 @@
 -- How an assessment begins.
-use Rattle.std.specs.Prelude.{◌≡◌, ◌∷◌, [], ◌++◌, List, length, true, false, Option, Some, None, option_map, codes}
+use Rattle.std.specs.Prelude.{◌≡◌, ◌∷◌, [], ◌++◌, List, length, false, Option, Some, None, option_map, codes}
 use Rattle.std.specs.List.{filter, find}
 use Rattle.req_tree.specs.Subject.{Subject}
 use Rattle.policy_model.specs.Rules.{Kind}

@@ -1,8 +1,8 @@
 -- How an assessment is finished.
-use Rattle.std.specs.Prelude.{◌≡◌, ◌∷◌, [], ◌++◌, ℕ, List, take, Result, Ok, Err}
+use Rattle.std.specs.Prelude.{◌≡◌, ℕ, List, take, Result, Ok, Err}
 use Rattle.policy_model.specs.Outcomes.{verdict_by}
 use Rattle.policy_model.specs.ReplyTexts.{rules}
-use Rattle.policy_model.specs.History.{Event, Opening, offer, ask_answer}
+use Rattle.policy_model.specs.History.{Event, Opening, ask_answer}
 use Rattle.object_model.specs.Kept.{objects_of, decision_of}
 use Rattle.object_model.specs.Tickets.{Ticket, ticket_ask, judged}
 use Rattle.object_model.specs.Stands as model

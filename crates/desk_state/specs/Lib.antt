@@ -1,6 +1,5 @@
 pub mod Answer
 pub mod Verdict
-pub mod Receipt
 pub mod Plan
 pub mod Cache
 pub mod Stands
@@ -8,3 +7,6 @@ pub mod Begun
 pub mod Finished
 pub mod Accepted
 pub mod Status
+pub mod Keeping
+pub mod Ready
+pub mod Loaded

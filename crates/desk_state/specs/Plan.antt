@@ -9,9 +9,9 @@ use Rattle.policy_model.specs.Refusals.{refusal}
 use Rattle.authority_table.specs.declared.prepared.Prepared.{Prepared}
 use Rattle.authority_table.specs.Prepared.{IsPlan, IsPlanFor, planned, plan_count}
 use Rattle.desk_state.specs.declared.plan.Plan.{Plan}
-use Rattle.desk_state.specs.declared.receipt.Receipt as code
+use Rattle.edit_receipts.specs.declared.receipts.Receipt as code
 use Rattle.desk_state.specs.declared.fault.EditFault.{EditFault}
-use Rattle.desk_state.specs.Receipt.{receipt_of}
+use Rattle.edit_receipts.specs.Receipts.{receipt_of}
 use Rattle.desk_state.specs.Answer.{refusal_of}
 
 -- how many rows are touched: none where no change of rows was planned

@@ -7,7 +7,7 @@ use Rattle.authority_table.specs.Rule.{rows_of}
 use Rattle.policy_model.specs.Tables.{Tables}
 use Rattle.policy_model.specs.History.{Event, Opening}
 use Rattle.desk_state.specs.declared.desk.Desk.{Desk}
-use Rattle.desk_state.specs.Receipt.{receipts_of}
+use Rattle.edit_receipts.specs.Receipts.{receipts_of}
 use Rattle.object_model.specs.Stands as model
 use Rattle.object_cache.specs.Objects.{held, counts}
 use Rattle.desk_state.specs.Cache.{Cache, cache_in}

@@ -3,24 +3,29 @@
 ghost use Rattle.std.specs.Prelude.{◌≡◌, ◌+◌, ◌<◌, ◌≤◌, ◌++◌, [], ◌∷◌, List, max, length, Some, None, IfOk, IfSome, IsSome, IsNone, OnOk};
 ghost use Rattle.authority_table.specs.Rule.{rows_of};
 ghost use Rattle.policy_model.specs.History.{HasOwnIds};
-ghost use Rattle.desk_state.specs.Receipt.{receipts_of};
+ghost use Rattle.edit_receipts.specs.Receipts.{receipts_of};
 ghost use Rattle.object_model.specs.declared.limits.TheConstants.{MOST_ENTRIES};
 ghost use Rattle.object_cache.specs.Objects.{room_of, counts};
 ghost use Rattle.desk_state.specs.Cache.{AreAtMost};
+ghost use Rattle.store_model.specs.Kept.{IsKept};
 
 mod assessing;
+mod keeping;
+mod listing;
+mod loading;
 mod planning;
 
 use crate::answer::Answer;
 use crate::fault::EditFault;
+use crate::fits::edit_fits;
 use crate::plan::Plan;
 use crate::purging::purge;
-use crate::receipt::{Receipt, Receipts};
 use crate::status::DeskStatus;
 use crate::verdict::{Origin, Verdict};
 use assess::Ask;
 use authority_table::{Found, Label, Moment, Prepared, RuleId, Table};
 use code_facts::FactTable;
+use edit_receipts::{Receipt, Receipts};
 use fact_values::Facts;
 use object_cache::Objects;
 use object_model::laws::{a_desk_goes_on_standing, first_ranks_purge, kept_stays_right};
@@ -30,6 +35,7 @@ use req_tree::Subject;
 use rule_edits::{Edit, content_is, content_text};
 use std::alloc::{AllocError, Global};
 use std::sync::Arc;
+use store_model::laws::stored_tables;
 
 /// Decides which code may be executed, installed or opened, by its rules.
 #[derive(Drop)]
@@ -45,6 +51,7 @@ pub struct Desk {
     /// What is kept of earlier assessments.
     objects: Objects,
     ghost own_ids: { HasOwnIds (record { rows = rows_of table; receipts = receipts_of receipts; enabled = enabled }) },
+    ghost kept: { ∥ IsKept (record { rows = rows_of table; receipts = receipts_of receipts; enabled = enabled }) ∥₁ },
     ghost room: { room_of objects ≡ MOST_ENTRIES },
     ghost marks: { AreAtMost (length receipts) (counts objects) },
 }
@@ -68,7 +75,7 @@ impl Desk {
     ghost use Rattle.authority_table.specs.Found.{governing_row, latent_row};
     ghost use Rattle.assess.specs.Ask.{ask_of};
     ghost use Rattle.rule_edits.specs.Edit.{edit_of};
-    ghost use Rattle.desk_state.specs.Receipt.{receipt_of};
+    ghost use Rattle.edit_receipts.specs.Receipts.{receipt_of};
     ghost use Rattle.desk_state.specs.Answer.{given, IsDone};
     ghost use Rattle.desk_state.specs.Plan.{IsFor, with_plan, carried_out, next_receipt};
     ghost use Rattle.desk_state.specs.Accepted.{IsDoneAtNew};
@@ -83,6 +90,7 @@ impl Desk {
     {
         a_desk_goes_on_standing();
         kept_stays_right();
+        stored_tables();
         Desk {
             table: Table::new(alloc),
             receipts: Receipts::new(alloc),
@@ -253,6 +261,8 @@ impl Desk {
     {
         ids_stay_own();
         first_ranks_purge();
+        stored_tables();
+        edit_fits(edit);
         let plan = self.plan(alloc, &edit.content)?;
         let receipt = self.receipt(alloc, edit, plan.count())?;
         let answer = Answer {
@@ -265,7 +275,12 @@ impl Desk {
     }
 
     /// The receipt of an edit that is about to be made.
-    fn receipt(&self, alloc: Global, edit: &Edit, rules: u32) -> Result<Receipt, AllocError>
+    pub(crate) fn receipt(
+        &self,
+        alloc: Global,
+        edit: &Edit,
+        rules: u32,
+    ) -> Result<Receipt, AllocError>
         ensures { IfOk result (λ receipt. receipt_of receipt ≡ next_receipt (edit_of edit.now) rules (tables self.now)) }
     {
         let content = content_text(alloc, &edit.content)?;
@@ -283,6 +298,7 @@ impl Desk {
         requires new { kept (tables self.old).receipts (receipt_of receipt).key ≡ None }
         requires fits { IsFor plan.rows (tables self.old).rows }
         requires own { HasOwnIds (with_plan plan receipt (tables self.old)) }
+        requires kept { ∥ IsKept (with_plan plan receipt (tables self.old)) ∥₁ }
         ensures tables { tables self.new ≡ carried_out result plan receipt (tables self.old) }
         ensures cache { cache_of self.new ≡ purged_so result plan.rows (cache_of self.old) }
         ensures moment { moment_of self.new ≡ moment_of self.old }
@@ -298,7 +314,7 @@ impl Desk {
 }
 
 /// Makes a change of the rules, if there is one.
-fn commit(table: &mut Table, rows: Option<Prepared>)
+pub(crate) fn commit(table: &mut Table, rows: Option<Prepared>)
     requires { IsFor rows (rows_of table.old) }
     ensures { rows_of table.new ≡ rows_by rows (rows_of table.old) }
 {
@@ -308,7 +324,7 @@ fn commit(table: &mut Table, rows: Option<Prepared>)
     }
 }
 
-ghost use Rattle.desk_state.specs.Receipt.{receipt_of};
+ghost use Rattle.edit_receipts.specs.Receipts.{receipt_of};
 ghost use Rattle.rule_edits.specs.Edit.{edit_of};
 ghost use Rattle.desk_state.specs.Plan.{IsFor, rows_by};
 ghost use Rattle.desk_state.specs.Answer.{given};
@@ -322,7 +338,7 @@ fn later(one: Moment, other: Moment) -> Moment
 }
 
 /// The answer to an edit under a key that is kept.
-fn at_kept(receipt: &Receipt, edit: &Edit) -> Result<Answer, EditFault>
+pub(crate) fn at_kept(receipt: &Receipt, edit: &Edit) -> Result<Answer, EditFault>
     ensures { given result ≡ Some (policy_edits.at_kept (receipt_of receipt.now) (edit_of edit.now)) }
 {
     let number = receipt.number;

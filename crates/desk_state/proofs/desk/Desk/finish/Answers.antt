@@ -1,4 +1,3 @@
-use Rattle.std.proofs.Common.{refl}
 use Rattle.desk_ticket.specs.Ticket.{ticket_of}
 use Rattle.desk_state.specs.Stands.{plain}
 use Rattle.desk_state.proofs.Assessed.{ok_map, finishes_after, stands_finished, stands_unfinished}

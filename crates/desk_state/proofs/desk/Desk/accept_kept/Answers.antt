@@ -1,0 +1,20 @@
+use Rattle.rule_edits.specs.Edit.{edit_of}
+use Rattle.desk_state.specs.Plan.{with_plan}
+use Rattle.desk_state.specs.Stands.{tables, facts_of}
+use Rattle.desk_state.proofs.Made.{stays_own}
+use Rattle.desk_state.proofs.Edited.{stays_kept, planned_tables}
+use Rattle.desk_state.proofs.desk.Desk.accept_kept.Goals as goal
+
+pub carry_out_kept-requires-clause-own : goal.carry_out_kept-requires-clause-own
+carry_out_kept-requires-clause-own g c =
+    let t = tables c.args.self.now in
+    let e = edit_of c.args.edit.now in
+    let ready = c.in-Ok.ready in
+    stays_own c.ids_stay_own.ensures.kept (facts_of c.args.self.now) t (with_plan ready.plan ready.receipt t) e c.args.self.now.own_ids c.requires.new c.in-Ok.ensures.accepted (planned_tables t e ready c.in-Ok.ensures)
+
+pub carry_out_kept-requires-clause-kept : goal.carry_out_kept-requires-clause-kept
+carry_out_kept-requires-clause-kept g c =
+    let t = tables c.args.self.now in
+    let e = edit_of c.args.edit.now in
+    let ready = c.in-Ok.ready in
+    stays_kept c.stored_tables.ensures.edit t (with_plan ready.plan ready.receipt t) e c.args.self.now.kept c.edit_fits.ensures c.requires.new c.in-Ok.ensures.accepted (planned_tables t e ready c.in-Ok.ensures)

@@ -1,0 +1,19 @@
+use Rattle.std.proofs.Common.{refl, sym, subst}
+use Rattle.std.specs.Prelude.{IsNone}
+use Rattle.policy_model.specs.History.{edit_failed}
+use Rattle.rule_edits.specs.Edit.{edit_of}
+use Rattle.object_model.specs.Stands as model
+use Rattle.desk_state.specs.Keeping.{given_kept}
+use Rattle.desk_state.specs.Stands.{plain}
+use Rattle.desk_state.proofs.Edited.{stands_edited, same_unedited}
+use Rattle.desk_state.proofs.desk.Desk.edit_kept.Goals as goal
+
+pub returns-clause-stands : goal.returns-clause-stands
+returns-clause-stands g c = λ o h some s.
+    stands_edited c.a_desk_goes_on_standing.ensures.edit (plain c.args.self.now) (plain c.make_kept.new.self) o h (edit_of c.args.edit.now) (given_kept c.make_kept.result) c.make_kept.ensures.edited some s
+
+pub returns-clause-failed : goal.returns-clause-failed
+returns-clause-failed g c = λ o h failed s.
+    let none : IsNone (given_kept c.make_kept.result) = subst (λ r. IsNone (given_kept r)) (sym failed) refl in
+    c.a_desk_goes_on_standing.ensures.quiet (plain c.make_kept.new.self) o h (edit_failed (edit_of c.args.edit.now)) refl
+    (subst (λ x. model.Stands x o h) (sym (same_unedited (plain c.args.self.now) (plain c.make_kept.new.self) (edit_of c.args.edit.now) (given_kept c.make_kept.result) c.make_kept.ensures.edited none)) s)
