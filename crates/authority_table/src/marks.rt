@@ -1,6 +1,6 @@
 //! Short numbers of labels, one for each rule: those of a label are found without a look at the others.
 
-ghost use Rattle.std.specs.Prelude.{◌≡◌, ◌≢◌, ◌<◌, ◌≤◌, ℕ, List, length, get_or};
+ghost use Rattle.std.specs.Prelude.{◌≡◌, ◌≢◌, ◌<◌, ◌≤◌, ℕ, List, false, length, get_or};
 ghost use Rattle.policy_model.specs.Rules.{Row};
 ghost use Rattle.policy_model.specs.Contents as model;
 ghost use Rattle.policy_model.specs.Contents.{by_label};
@@ -45,12 +45,28 @@ fn first_of(marks: &[u32], mark: u32) -> usize
     ensures within { result ≤ length marks.now }
     ensures others { (k d : ℕ) → k < result → get_or marks.now k d ≢ mark }
 {
-    for i in 0..marks.len() {
+    let start = first_near(marks, mark);
+    for i in start..marks.len() {
         if marks[i] == mark {
             return i;
         }
     }
     marks.len()
+}
+
+/// A place before which there are none of these marks: whole blocks are passed over.
+fn first_near(marks: &[u32], mark: u32) -> usize
+    ensures within { result ≤ length marks.now }
+    ensures others { (k d : ℕ) → k < result → get_or marks.now k d ≢ mark }
+{
+    let mut at = 0;
+    while at + BLOCK <= marks.len() {
+        if has(&marks[at..at + BLOCK], mark) {
+            return at;
+        }
+        at += BLOCK;
+    }
+    at
 }
 
 /// The place behind the last of these marks, or `from` where none is behind that.
@@ -60,9 +76,40 @@ fn end_of(marks: &[u32], from: usize, mark: u32) -> usize
     ensures within { result ≤ length marks.now }
     ensures others { (k d : ℕ) → result ≤ k → k < length marks.now → get_or marks.now k d ≢ mark }
 {
-    let mut to = marks.len();
+    let mut to = end_near(marks, from, mark);
     while from < to && marks[to - 1] != mark {
         to -= 1;
     }
     to
+}
+
+/// A place from which on there are none of these marks: whole blocks are passed over.
+fn end_near(marks: &[u32], from: usize, mark: u32) -> usize
+    requires { from ≤ length marks.now }
+    ensures ordered { from ≤ result }
+    ensures within { result ≤ length marks.now }
+    ensures others { (k d : ℕ) → result ≤ k → k < length marks.now → get_or marks.now k d ≢ mark }
+{
+    let mut to = marks.len();
+    while from + BLOCK <= to {
+        if has(&marks[to - BLOCK..to], mark) {
+            return to;
+        }
+        to -= BLOCK;
+    }
+    to
+}
+
+/// How many marks are looked at together.
+const BLOCK: usize = 64;
+
+/// Whether the mark is among these. Without a way out of the loop, several are compared in one step.
+fn has(block: &[u32], mark: u32) -> bool
+    ensures { result ≡ false → (k d : ℕ) → k < length block.now → get_or block.now k d ≢ mark }
+{
+    let mut found = false;
+    for other in block {
+        found = found | (*other == mark);
+    }
+    found
 }

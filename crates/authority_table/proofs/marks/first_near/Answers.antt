@@ -1,0 +1,9 @@
+use Rattle.std.proofs.Common.{◌+◌, arith}
+use Rattle.authority_table.proofs.Marked.{absent_before}
+use Rattle.authority_table.proofs.marks.first_near.Goals as goal
+
+pub loop-at-preserved : goal.loop-at-preserved
+loop-at-preserved c = (
+  omega (arith, c.loop-at-test.true),
+  absent_before c.args.marks.now c.args.mark c.loop-at.at (c.loop-at.at + 64) (omega arith) (omega (arith, c.loop-at-test.true)) c.loop-at.invariant.1 (c.has.ensures c.if-has.false),
+)
