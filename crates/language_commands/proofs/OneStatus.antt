@@ -1,7 +1,7 @@
 -- A text or a blob is taken or refused, and never both.
 use Rattle.std.proofs.Common.{◌≡◌, ℕ, ◌⊎◌, Bool, true, false, List, inl, inr, refl, sym, ◌∙◌}
 use Rattle.run_status.specs.declared.status.Status.{Status}
-use Rattle.run_status.specs.declared.status.Status.TheVariants.{Fine, Denied, Usage, ReadFault, WriteFault, ShelfFault, ClockFault, FileMissing, FileTooLong, Refused, SessionTooLong, OutOfMemory}
+use Rattle.run_status.specs.declared.status.Status.TheVariants.{Fine, Denied, Usage, ReadFault, WriteFault, ShelfFault, ClockFault, KeeperFault, FileMissing, FileTooLong, BadFacts, BadStore, Refused, SessionTooLong, OutOfMemory}
 use Rattle.language_commands.specs.Taken.{TakenOrRefused}
 use Rattle.language_commands.specs.Compiling.{Compiles, SaysOfText, IsBlob, RefusesText}
 use Rattle.req_ops.specs.SetEncoding.{IsPlainSet}
@@ -19,8 +19,11 @@ two Takes Refuses ReadFault said h = absurd h
 two Takes Refuses WriteFault said h = absurd h
 two Takes Refuses ShelfFault said h = absurd h
 two Takes Refuses ClockFault said h = absurd h
+two Takes Refuses KeeperFault said h = absurd h
 two Takes Refuses FileMissing said h = absurd h
 two Takes Refuses FileTooLong said h = absurd h
+two Takes Refuses BadFacts said h = absurd h
+two Takes Refuses BadStore said h = absurd h
 two Takes Refuses SessionTooLong said h = absurd h
 two Takes Refuses OutOfMemory said h = absurd h
 

@@ -18,10 +18,16 @@ pub enum Status {
     ShelfFault,
     /// The clock failed.
     ClockFault,
+    /// The keeper failed as its tables were loaded.
+    KeeperFault,
     /// There is no file of a name that a command asked for.
     FileMissing,
     /// A file has more bytes than its command takes.
     FileTooLong,
+    /// A row of the facts file is wrong.
+    BadFacts,
+    /// A row of the store is wrong.
+    BadStore,
     /// A command wrote a line that begins with `refused`.
     Refused,
     /// The source gave one byte past the limits of a session.

@@ -6,7 +6,7 @@ use Rattle.run_status.specs.declared.said.Said.{Said}
 use Rattle.run_status.specs.declared.stop.Stop.{Stop}
 use Rattle.run_status.specs.declared.stop.Stop.TheVariants as stop
 use Rattle.run_status.specs.declared.status.Status.{Status}
-use Rattle.run_status.specs.declared.status.Status.TheVariants.{Fine, Denied, Usage, ReadFault, WriteFault, ShelfFault, ClockFault, FileMissing, FileTooLong, Refused, SessionTooLong, OutOfMemory}
+use Rattle.run_status.specs.declared.status.Status.TheVariants.{Fine, Denied, Usage, ReadFault, WriteFault, ShelfFault, ClockFault, KeeperFault, FileMissing, FileTooLong, BadFacts, BadStore, Refused, SessionTooLong, OutOfMemory}
 use Rattle.run_status.specs.Said.{IsSpoken}
 use Rattle.spctl_cli.specs.LastLines.{shelf_fault_text, clock_fault_text, IsEndedBy}
 use Rattle.spctl_cli.specs.Conclusions.{Tells, Concludes, IsConcluded}
@@ -21,8 +21,11 @@ module _ (Says : Status → List ℕ → Type 0) where
   spoken_tells WriteFault text spoken says = absurd spoken
   spoken_tells ShelfFault text spoken says = absurd spoken
   spoken_tells ClockFault text spoken says = absurd spoken
+  spoken_tells KeeperFault text spoken says = absurd spoken
   spoken_tells FileMissing text spoken says = says
   spoken_tells FileTooLong text spoken says = says
+  spoken_tells BadFacts text spoken says = says
+  spoken_tells BadStore text spoken says = says
   spoken_tells Refused text spoken says = says
   spoken_tells SessionTooLong text spoken says = absurd spoken
   spoken_tells OutOfMemory text spoken says = absurd spoken
@@ -36,8 +39,11 @@ module _ (Says : Status → List ℕ → Type 0) where
     told WriteFault text spoken says put = absurd spoken
     told ShelfFault text spoken says put = absurd spoken
     told ClockFault text spoken says put = absurd spoken
+    told KeeperFault text spoken says put = absurd spoken
     told FileMissing text spoken says put = record { text = text; tells = says; put = put }
     told FileTooLong text spoken says put = record { text = text; tells = says; put = put }
+    told BadFacts text spoken says put = record { text = text; tells = says; put = put }
+    told BadStore text spoken says put = record { text = text; tells = says; put = put }
     told Refused text spoken says put = record { text = text; tells = says; put = put }
     told SessionTooLong text spoken says put = absurd spoken
     told OutOfMemory text spoken says put = absurd spoken
@@ -71,8 +77,11 @@ spoken_end ReadFault spoken = absurd spoken
 spoken_end WriteFault spoken = absurd spoken
 spoken_end ShelfFault spoken = absurd spoken
 spoken_end ClockFault spoken = absurd spoken
+spoken_end KeeperFault spoken = absurd spoken
 spoken_end FileMissing spoken = tt
 spoken_end FileTooLong spoken = tt
+spoken_end BadFacts spoken = tt
+spoken_end BadStore spoken = tt
 spoken_end Refused spoken = tt
 spoken_end SessionTooLong spoken = absurd spoken
 spoken_end OutOfMemory spoken = absurd spoken

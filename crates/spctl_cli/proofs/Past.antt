@@ -7,7 +7,7 @@ use Rattle.line_reader.specs.Limits.{IsWithin, RunsPast}
 use Rattle.policy_model.specs.History.{Opening}
 use Rattle.session_model.specs.Slots.{State}
 use Rattle.run_status.specs.declared.status.Status.{Status}
-use Rattle.run_status.specs.declared.status.Status.TheVariants.{Fine, Denied, Usage, ReadFault, WriteFault, ShelfFault, ClockFault, FileMissing, FileTooLong, Refused, SessionTooLong, OutOfMemory}
+use Rattle.run_status.specs.declared.status.Status.TheVariants.{Fine, Denied, Usage, ReadFault, WriteFault, ShelfFault, ClockFault, KeeperFault, FileMissing, FileTooLong, BadFacts, BadStore, Refused, SessionTooLong, OutOfMemory}
 use Rattle.spctl_cli.specs.Ends.{SessionEnds, UsageEnds, GavePast}
 
 -- bytes that are within the limits don't run past them
@@ -35,8 +35,11 @@ session_past o s left now written sent Usage e told a b = absurd e
 session_past o s left now written sent Denied e told a b = absurd e
 session_past o s left now written sent ShelfFault e told a b = absurd e
 session_past o s left now written sent ClockFault e told a b = absurd e
+session_past o s left now written sent KeeperFault e told a b = absurd e
 session_past o s left now written sent FileMissing e told a b = absurd e
 session_past o s left now written sent FileTooLong e told a b = absurd e
+session_past o s left now written sent BadFacts e told a b = absurd e
+session_past o s left now written sent BadStore e told a b = absurd e
 session_past o s left now written sent Refused e told a b = absurd e
 session_past o s left now written sent ReadFault e told a b = (λ is. (cc), λ past. absurd (none_past left now (text_of e.stops.lines ++ e.stops.rest) e.stops.taken e.stops.why.1 past))
 session_past o s left now written sent WriteFault e told a b = absurd (a refl)
@@ -55,8 +58,11 @@ usage_past left now written sent Fine e a b = absurd e
 usage_past left now written sent Denied e a b = absurd e
 usage_past left now written sent ShelfFault e a b = absurd e
 usage_past left now written sent ClockFault e a b = absurd e
+usage_past left now written sent KeeperFault e a b = absurd e
 usage_past left now written sent FileMissing e a b = absurd e
 usage_past left now written sent FileTooLong e a b = absurd e
+usage_past left now written sent BadFacts e a b = absurd e
+usage_past left now written sent BadStore e a b = absurd e
 usage_past left now written sent Refused e a b = absurd e
 usage_past left now written sent Usage e a b = (λ is. (cc), λ past. absurd (nothing_past left (subst (GavePast left) e.unread past)))
 usage_past left now written sent ReadFault e a b = absurd e

@@ -1,7 +1,7 @@
 -- How a run ends whose words are no command.
 use Rattle.std.proofs.Common.{◌≡◌, ◌≢◌, ℕ, List, Option, refl, subst}
 use Rattle.run_status.specs.declared.status.Status.{Status}
-use Rattle.run_status.specs.declared.status.Status.TheVariants.{Fine, Denied, Usage, ReadFault, WriteFault, ShelfFault, ClockFault, FileMissing, FileTooLong, Refused, SessionTooLong, OutOfMemory}
+use Rattle.run_status.specs.declared.status.Status.TheVariants.{Fine, Denied, Usage, ReadFault, WriteFault, ShelfFault, ClockFault, KeeperFault, FileMissing, FileTooLong, BadFacts, BadStore, Refused, SessionTooLong, OutOfMemory}
 use Rattle.spctl_cli.specs.Ends.{UsageEnds}
 
 -- it is usage unless the sink fails or memory runs out
@@ -10,8 +10,11 @@ usage_alone left now written sent Fine e a b = absurd e
 usage_alone left now written sent Denied e a b = absurd e
 usage_alone left now written sent ShelfFault e a b = absurd e
 usage_alone left now written sent ClockFault e a b = absurd e
+usage_alone left now written sent KeeperFault e a b = absurd e
 usage_alone left now written sent FileMissing e a b = absurd e
 usage_alone left now written sent FileTooLong e a b = absurd e
+usage_alone left now written sent BadFacts e a b = absurd e
+usage_alone left now written sent BadStore e a b = absurd e
 usage_alone left now written sent Refused e a b = absurd e
 usage_alone left now written sent Usage e a b = refl
 usage_alone left now written sent ReadFault e a b = absurd e

@@ -7,7 +7,7 @@ use Rattle.session_model.specs.Slots.{State}
 use Rattle.req_grammar.specs.declared.limits.TheConstants.{MOST_TEXT_BYTES}
 use Rattle.req_blob.specs.declared.limits.TheConstants.{MOST_BYTES}
 use Rattle.run_status.specs.declared.status.Status.{Status}
-use Rattle.run_status.specs.declared.status.Status.TheVariants.{Fine, Denied, Usage, ReadFault, WriteFault, ShelfFault, ClockFault, FileMissing, FileTooLong, Refused, SessionTooLong, OutOfMemory}
+use Rattle.run_status.specs.declared.status.Status.TheVariants.{Fine, Denied, Usage, ReadFault, WriteFault, ShelfFault, ClockFault, KeeperFault, FileMissing, FileTooLong, BadFacts, BadStore, Refused, SessionTooLong, OutOfMemory}
 use Rattle.language_commands.specs.Taken.{TakenOrRefused}
 use Rattle.run_status.specs.Files.{SaysWithoutFile, SaysOnFile}
 use Rattle.language_commands.specs.Compiling.{Compiles}
@@ -41,8 +41,11 @@ without files name limit ReadFault text h = absurd h
 without files name limit WriteFault text h = absurd h
 without files name limit ShelfFault text h = absurd h
 without files name limit ClockFault text h = absurd h
+without files name limit KeeperFault text h = absurd h
 without files name limit FileMissing text h = inl (refl, h.0)
 without files name limit FileTooLong text h = inr (refl, h.0)
+without files name limit BadFacts text h = absurd h
+without files name limit BadStore text h = absurd h
 without files name limit Refused text h = absurd h
 without files name limit SessionTooLong text h = absurd h
 without files name limit OutOfMemory text h = absurd h
@@ -84,8 +87,11 @@ taken_or_refused Takes Refuses ReadFault said h = absurd h
 taken_or_refused Takes Refuses WriteFault said h = absurd h
 taken_or_refused Takes Refuses ShelfFault said h = absurd h
 taken_or_refused Takes Refuses ClockFault said h = absurd h
+taken_or_refused Takes Refuses KeeperFault said h = absurd h
 taken_or_refused Takes Refuses FileMissing said h = absurd h
 taken_or_refused Takes Refuses FileTooLong said h = absurd h
+taken_or_refused Takes Refuses BadFacts said h = absurd h
+taken_or_refused Takes Refuses BadStore said h = absurd h
 taken_or_refused Takes Refuses Refused said h = tt
 taken_or_refused Takes Refuses SessionTooLong said h = absurd h
 taken_or_refused Takes Refuses OutOfMemory said h = absurd h
@@ -136,8 +142,11 @@ said_with Says written sent ReadFault uncut e = (e.text, e.tells)
 said_with Says written sent WriteFault uncut e = absurd uncut
 said_with Says written sent ShelfFault uncut e = absurd uncut
 said_with Says written sent ClockFault uncut e = absurd uncut
+said_with Says written sent KeeperFault uncut e = (e.text, e.tells)
 said_with Says written sent FileMissing uncut e = (e.text, e.tells)
 said_with Says written sent FileTooLong uncut e = (e.text, e.tells)
+said_with Says written sent BadFacts uncut e = (e.text, e.tells)
+said_with Says written sent BadStore uncut e = (e.text, e.tells)
 said_with Says written sent Refused uncut e = (e.text, e.tells)
 said_with Says written sent SessionTooLong uncut e = (e.text, e.tells)
 said_with Says written sent OutOfMemory uncut e = absurd uncut
@@ -205,8 +214,11 @@ work_is_done o s files moments command written sent ReadFault has a b d e = inl 
 work_is_done o s files moments command written sent WriteFault has a b d e = absurd (a refl)
 work_is_done o s files moments command written sent ShelfFault has a b d e = absurd (b refl)
 work_is_done o s files moments command written sent ClockFault has a b d e = absurd (d refl)
+work_is_done o s files moments command written sent KeeperFault has a b d e = inl (worked o s files moments command KeeperFault e.text has e.tells)
 work_is_done o s files moments command written sent FileMissing has a b d e = inl (worked o s files moments command FileMissing e.text has e.tells)
 work_is_done o s files moments command written sent FileTooLong has a b d e = inl (worked o s files moments command FileTooLong e.text has e.tells)
+work_is_done o s files moments command written sent BadFacts has a b d e = inl (worked o s files moments command BadFacts e.text has e.tells)
+work_is_done o s files moments command written sent BadStore has a b d e = inl (worked o s files moments command BadStore e.text has e.tells)
 work_is_done o s files moments command written sent Refused has a b d e = inl (worked o s files moments command Refused e.text has e.tells)
 work_is_done o s files moments command written sent SessionTooLong has a b d e = inl (worked o s files moments command SessionTooLong e.text has e.tells)
 work_is_done o s files moments command written sent OutOfMemory has a b d e = inr refl
