@@ -1,4 +1,5 @@
 mod Places
+mod Failed
 mod Opens
 mod Finishes
 mod AsksEdits

@@ -10,30 +10,34 @@ use Rattle.desk_state.specs.Stands.{Stands}
 use Rattle.desk_state.specs.declared.desk.Desk.{Desk}
 use Rattle.desk_lines.specs.declared.slots.OpenSlot.{OpenSlot}
 use Rattle.desk_lines.specs.Slots.{AreOpen}
+use Rattle.desk_lines.specs.Failures.{Shows}
 
 -- the desk stands for what has happened, and no assessment is open
 abbrev pub BeginsAt : Desk → Opening → State → Type 0
 BeginsAt d o s = Stands d o s.history × (s.slots ≡ [])
 
--- since it stood at start the desk answered the lines by the replies, whatever its state had been
-abbrev pub HasAnswered : Desk → Desk → List (List ℕ) → List (List ℕ) → Type 0
-HasAnswered start now lines replies =
-    (o : Opening) (s : State) → BeginsAt start o s → (after : State) × Session o s lines replies after × Stands now o after.history
+-- since it stood at start the desk answered the lines by the replies, whatever its state had been; no more edits failed than the keeper's count rose by, from before to counted
+abbrev pub HasAnswered : Desk → Desk → ℕ → ℕ → List (List ℕ) → List (List ℕ) → Type 0
+HasAnswered start now before counted lines replies =
+    (o : Opening) (s : State) → BeginsAt start o s
+    → (after : State) × Session o s lines replies after × Stands now o after.history × Shows s.history after.history before counted
 
 -- the desk and what is open stand for a state; once a ticket is lost for want of memory, nothing is said of what is open
 abbrev pub IsAt : Desk → List OpenSlot → Bool → Opening → State → Type 0
 IsAt d slots lost o s = Stands d o s.history × (lost ≡ false → AreOpen o s.history 0 slots s.slots)
 
 -- the same as HasAnswered, and what is open stands for the state that was reached
-abbrev pub HasAnsweredSo : Desk → Desk → List OpenSlot → Bool → List (List ℕ) → List (List ℕ) → Type 0
-HasAnsweredSo start now slots lost lines replies =
-    (o : Opening) (s : State) → BeginsAt start o s → (after : State) × Session o s lines replies after × IsAt now slots lost o after
+abbrev pub HasAnsweredSo : Desk → Desk → List OpenSlot → Bool → ℕ → ℕ → List (List ℕ) → List (List ℕ) → Type 0
+HasAnsweredSo start now slots lost before counted lines replies =
+    (o : Opening) (s : State) → BeginsAt start o s
+    → (after : State) × Session o s lines replies after × IsAt now slots lost o after × Shows s.history after.history before counted
 
 -- from old to new the desk replied to what a line asks for, or to its fault, whatever its state had been
-abbrev pub HasReplied : Desk → List OpenSlot → Desk → List OpenSlot → Result Request LineFault → List ℕ → Type 0
-HasReplied old held new opened asked reply =
+abbrev pub HasReplied : Desk → List OpenSlot → Desk → List OpenSlot → ℕ → ℕ → Result Request LineFault → List ℕ → Type 0
+HasReplied old held new opened before counted asked reply =
     (o : Opening) (s : State) → Stands old o s.history → AreOpen o s.history 0 held s.slots
     → (after : State) × Replies o s asked reply after × Stands new o after.history × AreOpen o after.history 0 opened after.slots
+    × Shows s.history after.history before counted
 
 -- an assessment of this ask began under a number that was free, while there was room
 abbrev pub BeginsAnew : Desk → List OpenSlot → List OpenSlot → ℕ → Ask → List ℕ → Type 0

@@ -1,3 +1,4 @@
 pub mod Slots
+pub mod Failures
 pub mod Answered
 pub mod Requests

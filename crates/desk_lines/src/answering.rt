@@ -1,15 +1,13 @@
 //! What a line asks for, done by a desk, with its reply.
 
-ghost use Rattle.std.specs.Prelude.{◌≡◌, ◌≤◌, [], ℕ, List, length, true, false, Ok, OnOk, OnErr, is_some};
+ghost use Rattle.std.specs.Prelude.{◌≡◌, ◌≤◌, [], ℕ, List, length, Ok, OnOk, OnErr};
 ghost use Rattle.line_text.specs.LineText.{line_bytes};
 ghost use Rattle.policy_model.specs.History.{Opening};
 ghost use Rattle.session_model.specs.Slots.{State};
 ghost use Rattle.session_model.specs.Lines as model;
 ghost use Rattle.line_session.specs.declared.limits.TheConstants.{REPLY_LIMIT};
 ghost use Rattle.assess.specs.Ask.{ask_of};
-ghost use Rattle.rule_edits.specs.Edit.{edit_of};
-ghost use Rattle.desk_state.specs.Answer.{refusal_of, given_text};
-ghost use Rattle.desk_state.specs.Stands.{Stands};
+ghost use Rattle.desk_state.specs.Stands.{tables, Stands};
 ghost use Rattle.desk_lines.specs.declared.slots.OpenSlot as code;
 ghost use Rattle.desk_lines.specs.Answered.{HasReplied, BeginsAnew};
 
@@ -18,17 +16,17 @@ use crate::slots::{OpenSlot, is_open, take_slot};
 use crate::status::status_into;
 use assess::Ask;
 use authority_table::Moment;
-use desk_state::{Desk, EditFault};
+use desk_state::Desk;
 use line_text::LineText;
 use object_model::laws::a_ticket_is_enough;
-use rule_edits::Edit;
 use session_model::limits::MOST_SLOTS;
 use std::alloc::{AllocError, Global};
 
 pub fn tick(desk: &mut Desk, at: Moment, out: &mut LineText)
     requires { line_bytes out.old ≡ [] }
+    ensures tables { tables desk.new ≡ tables desk.old }
     ensures room { length (line_bytes out.new) ≤ REPLY_LIMIT }
-    ensures replies { (held : List code.OpenSlot) → HasReplied desk.old held desk.new held (Ok (model.tick at)) (line_bytes out.new) }
+    ensures replies { (held : List code.OpenSlot) (n : ℕ) → HasReplied desk.old held desk.new held n n (Ok (model.tick at)) (line_bytes out.new) }
 {
     a_ticket_is_enough();
     let now = desk.tick(at);
@@ -39,54 +37,11 @@ pub fn tick(desk: &mut Desk, at: Moment, out: &mut LineText)
 pub fn status(desk: &Desk, out: &mut LineText)
     requires { line_bytes out.old ≡ [] }
     ensures room { length (line_bytes out.new) ≤ REPLY_LIMIT }
-    ensures replies { (held : List code.OpenSlot) → HasReplied desk.now held desk.now held (Ok model.status) (line_bytes out.new) }
+    ensures replies { (held : List code.OpenSlot) (n : ℕ) → HasReplied desk.now held desk.now held n n (Ok model.status) (line_bytes out.new) }
 {
     a_ticket_is_enough();
     let standing = desk.status();
     status_into(&standing, out);
-}
-
-pub fn make(
-    desk: &mut Desk,
-    alloc: Global,
-    edit: &Edit,
-    out: &mut LineText,
-) -> Result<(), AllocError>
-    requires { line_bytes out.old ≡ [] }
-    ensures room { length (line_bytes out.new) ≤ REPLY_LIMIT }
-    ensures replies { OnOk result
-        ((held : List code.OpenSlot) → HasReplied desk.old held desk.new held (Ok (model.edit (edit_of edit.now))) (line_bytes out.new)) }
-    ensures refuses { OnErr result ((o : Opening) (s : State) → Stands desk.old o s.history → Stands desk.new o s.history) }
-{
-    a_ticket_is_enough();
-    match desk.edit(alloc, edit) {
-        Ok(answer) => {
-            answer.line_into(out);
-            Ok(())
-        }
-        Err(fault) => refuse(fault, out),
-    }
-}
-
-/// The refusal of an edit; none where memory ran out.
-fn refuse(fault: EditFault, out: &mut LineText) -> Result<(), AllocError>
-    requires { line_bytes out.old ≡ [] }
-    ensures room { length (line_bytes out.new) ≤ REPLY_LIMIT }
-    ensures refused { OnOk result ((is_some (refusal_of fault) ≡ true) × (line_bytes out.new ≡ given_text (refusal_of fault))) }
-    ensures starved { OnErr result (is_some (refusal_of fault) ≡ false) }
-{
-    if is_refusal(&fault) {
-        fault.line_into(out);
-        Ok(())
-    } else {
-        Err(AllocError)
-    }
-}
-
-fn is_refusal(fault: &EditFault) -> bool
-    ensures { result ≡ is_some (refusal_of fault.now) }
-{
-    !matches!(fault, EditFault::OutOfMemory)
 }
 
 pub fn assess(
@@ -96,9 +51,10 @@ pub fn assess(
     out: &mut LineText,
 ) -> Result<(), AllocError>
     requires { line_bytes out.old ≡ [] }
+    ensures tables { tables desk.new ≡ tables desk.old }
     ensures room { length (line_bytes out.new) ≤ REPLY_LIMIT }
     ensures replies { OnOk result
-        ((held : List code.OpenSlot) → HasReplied desk.old held desk.new held (Ok (model.assess (ask_of ask.now))) (line_bytes out.new)) }
+        ((held : List code.OpenSlot) (n : ℕ) → HasReplied desk.old held desk.new held n n (Ok (model.assess (ask_of ask.now))) (line_bytes out.new)) }
     ensures refuses { OnErr result ((o : Opening) (s : State) → Stands desk.old o s.history → Stands desk.new o s.history) }
 {
     a_ticket_is_enough();
@@ -116,7 +72,7 @@ pub fn begin(
 ) -> Result<(), AllocError>
     requires { line_bytes out.old ≡ [] }
     ensures room { length (line_bytes out.new) ≤ REPLY_LIMIT }
-    ensures replies { OnOk result (HasReplied desk.now slots.old.items desk.now slots.new.items
+    ensures replies { OnOk result ((n : ℕ) → HasReplied desk.now slots.old.items desk.now slots.new.items n n
         (Ok (model.begin number (ask_of ask.now))) (line_bytes out.new)) }
     ensures refuses { OnErr result (slots.new.items ≡ slots.old.items) }
 {
@@ -160,9 +116,10 @@ pub fn finish_number(
     out: &mut LineText,
 ) -> Result<(), AllocError>
     requires { line_bytes out.old ≡ [] }
+    ensures tables { tables desk.new ≡ tables desk.old }
     ensures room { length (line_bytes out.new) ≤ REPLY_LIMIT }
     ensures replies { OnOk result
-        (HasReplied desk.old slots.old.items desk.new slots.new.items (Ok (model.finish number)) (line_bytes out.new)) }
+        ((n : ℕ) → HasReplied desk.old slots.old.items desk.new slots.new.items n n (Ok (model.finish number)) (line_bytes out.new)) }
     ensures refuses { OnErr result ((o : Opening) (s : State) → Stands desk.old o s.history → Stands desk.new o s.history) }
 {
     a_ticket_is_enough();

@@ -9,7 +9,7 @@ ghost use Rattle.policy_model.specs.History as event;
 ghost use Rattle.session_model.specs.Finishing.{finished_text, finished_history};
 ghost use Rattle.object_model.specs.Tickets.{IsTicketOf, ticket_ask};
 ghost use Rattle.desk_ticket.specs.Ticket.{ticket_of};
-ghost use Rattle.desk_state.specs.Stands.{Stands};
+ghost use Rattle.desk_state.specs.Stands.{tables, Stands};
 ghost use Rattle.desk_lines.specs.Slots.{IsHeld};
 
 use desk_state::{Begun, Desk, Ticket};
@@ -19,6 +19,7 @@ use std::alloc::AllocError;
 /// Writes the reply to an assessment that is finished now. Out of memory, nothing of it was done.
 pub fn finish(desk: &mut Desk, begun: Begun, out: &mut LineText) -> Result<(), AllocError>
     requires { line_bytes out.old ≡ [] }
+    ensures tables { tables desk.new ≡ tables desk.old }
     ensures room { length (line_bytes out.new) ≤ REPLY_LIMIT }
     ensures finished { (o : Opening) (h : List Event) (k : ℕ) (a : policy.Ask)
         → Stands desk.old o h → slice_get h k ≡ Some (event.ask a) → IsHeld o h k a begun
@@ -36,6 +37,7 @@ pub fn finish(desk: &mut Desk, begun: Begun, out: &mut LineText) -> Result<(), A
 
 fn finish_ticket(desk: &mut Desk, ticket: Ticket, out: &mut LineText) -> Result<(), AllocError>
     requires { line_bytes out.old ≡ [] }
+    ensures tables { tables desk.new ≡ tables desk.old }
     ensures room { length (line_bytes out.new) ≤ REPLY_LIMIT }
     ensures finished { (o : Opening) (h : List Event) (k : ℕ)
         → Stands desk.old o h → IsTicketOf (ticket_of ticket) o h k

@@ -2,6 +2,7 @@
 #![tactic(auto)]
 
 mod answering;
+mod editing;
 mod finishing;
 mod lines;
 mod request;

@@ -9,30 +9,40 @@ ghost use Rattle.line_session.specs.declared.limits.TheConstants.{REPLY_LIMIT};
 ghost use Rattle.line_words.specs.Faults.{fault_of};
 ghost use Rattle.line_words.specs.declared.fault.LineFault.TheVariants.{OutOfMemory};
 
-use crate::answering::{assess, begin, finish_number, make, status, tick};
+use crate::answering::{assess, begin, finish_number, status, tick};
+use crate::editing::make;
 use crate::request::{Request, read_request};
 use crate::slots::OpenSlot;
 use desk_state::Desk;
 use line_session::Responder;
 use line_text::LineText;
 use line_words::LineFault;
+use policy_keeper::Keeper;
 use session_model::laws::the_front_asks_the_same;
 use std::alloc::{AllocError, Global};
 
-/// A desk that is lent, with what is open on it, and answers lines.
+/// A desk and its keeper that are lent, with what is open on the desk, and answers lines.
 #[derive(Drop)]
-pub struct DeskLines<'a> {
+pub struct DeskLines<'a, K: Keeper> {
     pub desk: &'a mut Desk,
+    pub keeper: &'a mut K,
     pub slots: &'a mut Vec<OpenSlot>,
     /// A ticket was lost, as there was no memory to finish it: no line is answered any more.
     pub lost: bool,
 }
 
-impl Responder for DeskLines<'_> {
+impl<K: Keeper> Responder for DeskLines<'_, K> {
     ghost use Rattle.std.specs.Prelude.{false};
+    ghost use Rattle.policy_keeper.specs.Mirror.{Mirrors};
+    ghost use Rattle.desk_state.specs.Stands.{tables};
     ghost use Rattle.desk_lines.specs.Answered.{HasAnsweredSo};
+    ghost use Rattle.desk_lines.specs.Failures.{Keeps};
 
-    ghost answered = { λ begin lines texts replies. HasAnsweredSo begin.desk.now lines.desk.now lines.slots.now.items lines.lost texts replies × (lines.desk.ghost_name ≡ begin.desk.ghost_name) };
+    ghost answered = { λ begin lines texts replies. HasAnsweredSo begin.desk.now lines.desk.now lines.slots.now.items lines.lost (K.faults begin.keeper.now) (K.faults lines.keeper.now) texts replies
+        × Keeps (K.told begin.keeper.now) (K.told lines.keeper.now) (K.faults begin.keeper.now) (K.faults lines.keeper.now)
+        × (lines.desk.ghost_name ≡ begin.desk.ghost_name) × (lines.keeper.ghost_name ≡ begin.keeper.ghost_name) };
+
+    ghost ready = { λ lines. Mirrors (K.told lines.keeper.now) (tables lines.desk.now) };
 
     fn answer(&mut self, alloc: Global, line: &[u8], out: &mut LineText) -> Result<(), AllocError> {
         the_front_asks_the_same();
@@ -46,19 +56,29 @@ impl Responder for DeskLines<'_> {
     }
 }
 
-impl<'a> DeskLines<'a> {
+impl<'a, K: Keeper> DeskLines<'a, K> {
     ghost use Rattle.std.specs.Prelude.{false};
+    ghost use Rattle.policy_keeper.specs.Mirror.{Mirrors};
+    ghost use Rattle.desk_state.specs.Stands.{tables};
     ghost use Rattle.desk_lines.specs.Answered.{HasReplied, IsAt};
+    ghost use Rattle.desk_lines.specs.Failures.{Keeps};
     ghost use Rattle.desk_lines.specs.Requests.{request_view};
 
-    pub fn over(desk: &'a mut Desk, slots: &'a mut Vec<OpenSlot>) -> DeskLines<'a>
+    pub fn over(
+        desk: &'a mut Desk,
+        keeper: &'a mut K,
+        slots: &'a mut Vec<OpenSlot>,
+    ) -> DeskLines<'a, K>
         requires { slots.old.items ≡ [] }
         ensures name { result.desk.ghost_name ≡ desk.entry.ghost_name }
+        ensures keeper_name { result.keeper.ghost_name ≡ keeper.entry.ghost_name }
         ensures desk { result.desk.now ≡ desk.old }
+        ensures keeper { result.keeper.now ≡ keeper.old }
         ensures none { result.slots.now.items ≡ [] }
     {
         DeskLines {
             desk,
+            keeper,
             slots,
             lost: false,
         }
@@ -72,14 +92,20 @@ impl<'a> DeskLines<'a> {
     ) -> Result<(), AllocError>
         requires text { line_bytes out.old ≡ [] }
         requires whole { self.old.lost ≡ false }
+        requires mirrors { Mirrors (K.told self.old.keeper.now) (tables self.old.desk.now) }
+        ensures mirrors { Mirrors (K.told self.new.keeper.now) (tables self.new.desk.now) }
+        ensures keeps { Keeps (K.told self.old.keeper.now) (K.told self.new.keeper.now) (K.faults self.old.keeper.now) (K.faults self.new.keeper.now) }
         ensures name { self.new.desk.ghost_name ≡ self.old.desk.ghost_name }
+        ensures keeper_name { self.new.keeper.ghost_name ≡ self.old.keeper.ghost_name }
         ensures room { length (line_bytes out.new) ≤ REPLY_LIMIT }
         ensures replies { OnOk result ((self.new.lost ≡ false)
-            × HasReplied self.old.desk.now self.old.slots.now.items self.new.desk.now self.new.slots.now.items (Ok (request_view request)) (line_bytes out.new)) }
+            × HasReplied self.old.desk.now self.old.slots.now.items self.new.desk.now self.new.slots.now.items (K.faults self.old.keeper.now) (K.faults self.new.keeper.now) (Ok (request_view request)) (line_bytes out.new)) }
         ensures refuses { OnErr result
-            ((o : Opening) (s : State) → IsAt self.old.desk.now self.old.slots.now.items false o s → IsAt self.new.desk.now self.new.slots.now.items self.new.lost o s) }
+            (((o : Opening) (s : State) → IsAt self.old.desk.now self.old.slots.now.items false o s → IsAt self.new.desk.now self.new.slots.now.items self.new.lost o s)
+            × (K.faults self.new.keeper.now ≡ K.faults self.old.keeper.now)) }
     {
         match request {
+            Request::Edit(edit) => make(self.desk, self.keeper, alloc, &edit, out),
             Request::Tick(at) => {
                 tick(self.desk, at, out);
                 Ok(())
@@ -91,16 +117,18 @@ impl<'a> DeskLines<'a> {
                 status(self.desk, out);
                 Ok(())
             }
-            Request::Edit(edit) => make(self.desk, alloc, &edit, out),
         }
     }
 
     fn finish(&mut self, number: u32, out: &mut LineText) -> Result<(), AllocError>
         requires { line_bytes out.old ≡ [] }
+        ensures tables { tables self.new.desk.now ≡ tables self.old.desk.now }
+        ensures keeper { self.new.keeper.now ≡ self.old.keeper.now }
         ensures name { self.new.desk.ghost_name ≡ self.old.desk.ghost_name }
+        ensures keeper_name { self.new.keeper.ghost_name ≡ self.old.keeper.ghost_name }
         ensures room { length (line_bytes out.new) ≤ REPLY_LIMIT }
         ensures replies { OnOk result ((self.new.lost ≡ false)
-            × HasReplied self.old.desk.now self.old.slots.now.items self.new.desk.now self.new.slots.now.items (Ok (model.finish number)) (line_bytes out.new)) }
+            × ((n : ℕ) → HasReplied self.old.desk.now self.old.slots.now.items self.new.desk.now self.new.slots.now.items n n (Ok (model.finish number)) (line_bytes out.new))) }
         ensures refuses { OnErr result
             ((o : Opening) (s : State) → IsAt self.old.desk.now self.old.slots.now.items false o s → IsAt self.new.desk.now self.new.slots.now.items self.new.lost o s) }
     {
@@ -114,7 +142,7 @@ impl<'a> DeskLines<'a> {
         requires { line_bytes out.old ≡ [] }
         ensures room { length (line_bytes out.new) ≤ REPLY_LIMIT }
         ensures replies { OnOk result ((fault ≢ OutOfMemory)
-            × HasReplied self.now.desk.now self.now.slots.now.items self.now.desk.now self.now.slots.now.items (Err (fault_of fault)) (line_bytes out.new)) }
+            × ((n : ℕ) → HasReplied self.now.desk.now self.now.slots.now.items self.now.desk.now self.now.slots.now.items n n (Err (fault_of fault)) (line_bytes out.new))) }
     {
         if is_out_of_memory(&fault) {
             return Err(AllocError);

@@ -17,6 +17,8 @@ struct Echo {
 impl Responder for Echo {
     ghost answered = { λ _ _ _ _. Unit {0} };
 
+    ghost ready = { λ _. Unit {0} };
+
     fn answer(
         &mut self,
         _alloc: Global,

@@ -46,6 +46,8 @@ pub fn reply_to<R: Responder, W: Sink>(
     text: &mut LineText,
     output: &mut W,
 ) -> Reply
+    requires ready { R.ready responder.old }
+    ensures ready { R.ready responder.new }
     ensures replied { (begin : R) (whole : List ℕ) (lines replies : List (List ℕ))
         → line.now ≡ take LINE_HELD whole → R.answered begin responder.old lines replies
         → IsReplied (R.answered begin responder.new) (W.written output.old) (W.written output.new)

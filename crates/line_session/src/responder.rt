@@ -13,10 +13,15 @@ pub trait Responder {
     // These lines were answered by these replies, in order, since the responder was made.
     ghost answered: { Self → Self → List (List ℕ) → List (List ℕ) → Type 0 };
 
+    // What holds between two lines, and what an answer needs.
+    ghost ready: { Self → Type 0 };
+
     /// Answers a line, of which at most the first `LINE_HELD` bytes are handed in, by a reply without LF. Out of
     /// memory, the line isn't answered and changed nothing.
     fn answer(&mut self, alloc: Global, line: &[u8], out: &mut LineText) -> Result<(), AllocError>
-        requires { line_bytes out.old ≡ [] }
+        requires text { line_bytes out.old ≡ [] }
+        requires ready { ready self.old }
+        ensures ready { ready self.new }
         ensures room { length (line_bytes out.new) ≤ REPLY_LIMIT }
         ensures answers { OnOk result ((begin : Self) (whole : List ℕ) (lines replies : List (List ℕ))
             → line.now ≡ take LINE_HELD whole → answered begin self.old lines replies

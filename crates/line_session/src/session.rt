@@ -26,7 +26,9 @@ pub fn run_session<R: Responder, S: Source, W: Sink>(
     input: &mut S,
     output: &mut W,
 ) -> Ended
-    requires { R.answered responder.old responder.old [] [] }
+    requires answered { R.answered responder.old responder.old [] [] }
+    requires ready { R.ready responder.old }
+    ensures ready { R.ready responder.new }
 
     // What was read, answered and written, by the end.
     ensures fine { result ≡ Ended.Fine → EndsFine (R.answered responder.old responder.new)
@@ -77,6 +79,8 @@ fn all_lines<R: Responder, S: Source, W: Sink>(
     requires lines { lines_handed reader.old ≡ 0 }
     requires bytes { bytes_handed reader.old ≡ 0 }
     requires answered { R.answered responder.old responder.old [] [] }
+    requires ready { R.ready responder.old }
+    ensures ready { R.ready responder.new }
     ensures ends { IsEnd (R.answered responder.old responder.new)
         (S.left input.old) (S.left input.new) (W.written output.old) (W.written output.new) result }
     ensures flushed { StaysFlushed (Some result) (W.flushed output.old) (W.flushed output.new)
@@ -104,6 +108,8 @@ fn one_line<R: Responder, S: Source, W: Sink>(
     input: &mut S,
     output: &mut W,
 ) -> Option<Ended>
+    requires ready { R.ready responder.old }
+    ensures ready { R.ready responder.new }
     ensures goes { (begin : R) (start first : Option (List ℕ))
         → IsGoing (R.answered begin responder.old) start (stream reader.old (S.left input.old)) first (W.written output.old)
         → IsTurn (R.answered begin responder.new) start (S.left input.new) (stream reader.new (S.left input.new))

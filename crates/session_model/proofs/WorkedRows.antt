@@ -1,6 +1,7 @@
 -- Worked sessions, computed by the definitions alone: lines, and the replies that were worked out by hand. What the
 -- texts of requirements read as is handed in: `req_grammar` has the rows of texts.
 use Rattle.std.specs.Prelude.{◌≡◌, ℕ, List, [], ◌∷◌, ◌++◌, replicate, refl, codes, Ok, Err}
+use Rattle.std.proofs.Common.{inl, inr}
 use Rattle.std.specs.Fmt.{digits}
 use Rattle.hex.specs.Hex.{decode_pairs}
 use Rattle.req_tree.specs.Facts.{no_facts}
@@ -34,7 +35,7 @@ one_rule : IsRequirementText (codes "always") always → Answers
     (codes "now=100" ∷ codes "ok edit=1 rules=1"
     ∷ codes "accepted at=100 rule=1 latent=none label=- override=none source=rules cache=kept" ∷ [])
 unfolding digits decode_pairs places add_front content_text verdict_text status_line
-one_rule says = (_, (_, _, refl, (refl, refl), (_, _, (_, (Ok always, says, refl), refl), (refl, refl), (_, _, refl, (refl, refl), refl))))
+one_rule says = (_, (_, _, refl, inl (refl, refl), (_, _, (_, (Ok always, says, refl), refl), inl (refl, refl), (_, _, refl, inl (refl, refl), refl))))
 
 -- of two rules of one priority the older decides
 tie : IsRequirementText (codes "always") always → Answers
@@ -43,7 +44,7 @@ tie : IsRequirementText (codes "always") always → Answers
     (codes "ok edit=1 rules=1" ∷ codes "ok edit=2 rules=1"
     ∷ codes "rejected at=0 rule=1 latent=none label=first override=none source=rules cache=kept" ∷ [])
 unfolding digits decode_pairs places add_front content_text verdict_text status_line
-tie says = (_, (_, _, (_, (Ok always, says, refl), refl), (refl, refl), (_, _, (_, (Ok always, says, refl), refl), (refl, refl), (_, _, refl, (refl, refl), refl))))
+tie says = (_, (_, _, (_, (Ok always, says, refl), refl), inl (refl, refl), (_, _, (_, (Ok always, says, refl), refl), inl (refl, refl), (_, _, refl, inl (refl, refl), refl))))
 
 -- an edit of a rule that is tried before moves the outcome of what was begun
 overtaken : IsRequirementText (codes "always") always → Answers
@@ -54,7 +55,7 @@ overtaken : IsRequirementText (codes "always") always → Answers
     ∷ codes "accepted at=0 rule=1 latent=none label=- override=none source=rules cache=moved"
     ∷ codes "rejected at=0 rule=2 latent=none label=- override=none source=rules cache=kept" ∷ [])
 unfolding digits decode_pairs places add_front content_text verdict_text status_line
-overtaken says = (_, (_, _, (_, (Ok always, says, refl), refl), (refl, refl), (_, _, refl, (refl, refl), (_, _, (_, (Ok always, says, refl), refl), (refl, refl), (_, _, refl, (refl, refl), (_, _, refl, (refl, refl), refl))))))
+overtaken says = (_, (_, _, (_, (Ok always, says, refl), refl), inl (refl, refl), (_, _, refl, inl (refl, refl), (_, _, (_, (Ok always, says, refl), refl), inl (refl, refl), (_, _, refl, inl (refl, refl), (_, _, refl, inl (refl, refl), refl))))))
 
 -- with no late edit allowed, any edit of the kind moves it
 overtaken_behind : IsRequirementText (codes "always") always → Answers
@@ -65,7 +66,7 @@ overtaken_behind : IsRequirementText (codes "always") always → Answers
     ∷ codes "accepted at=0 rule=1 latent=none label=- override=none source=rules cache=moved"
     ∷ codes "accepted at=0 rule=1 latent=none label=- override=none source=rules cache=kept" ∷ [])
 unfolding digits decode_pairs places add_front content_text verdict_text status_line
-overtaken_behind says = (_, (_, _, (_, (Ok always, says, refl), refl), (refl, refl), (_, _, refl, (refl, refl), (_, _, (_, (Ok always, says, refl), refl), (refl, refl), (_, _, refl, (refl, refl), (_, _, refl, (refl, refl), refl))))))
+overtaken_behind says = (_, (_, _, (_, (Ok always, says, refl), refl), inl (refl, refl), (_, _, refl, inl (refl, refl), (_, _, (_, (Ok always, says, refl), refl), inl (refl, refl), (_, _, refl, inl (refl, refl), (_, _, refl, inl (refl, refl), refl))))))
 
 -- an outcome is kept up to the end of its rule
 until_its_end : IsRequirementText (codes "always") always → Answers
@@ -76,7 +77,7 @@ until_its_end : IsRequirementText (codes "always") always → Answers
     ∷ codes "accepted at=99 rule=1 latent=none label=- override=none source=cache cache=none" ∷ codes "now=100"
     ∷ codes "rejected at=100 rule=2 latent=none label=- override=none source=rules cache=kept" ∷ [])
 unfolding digits decode_pairs places add_front content_text verdict_text status_line
-until_its_end says = (_, (_, _, (_, (Ok always, says, refl), refl), (refl, refl), (_, _, (_, (Ok always, says, refl), refl), (refl, refl), (_, _, refl, (refl, refl), (_, _, refl, (refl, refl), (_, _, refl, (refl, refl), (_, _, refl, (refl, refl), (_, _, refl, (refl, refl), (_, _, refl, (refl, refl), refl)))))))))
+until_its_end says = (_, (_, _, (_, (Ok always, says, refl), refl), inl (refl, refl), (_, _, (_, (Ok always, says, refl), refl), inl (refl, refl), (_, _, refl, inl (refl, refl), (_, _, refl, inl (refl, refl), (_, _, refl, inl (refl, refl), (_, _, refl, inl (refl, refl), (_, _, refl, inl (refl, refl), (_, _, refl, inl (refl, refl), refl)))))))))
 
 -- a default is kept for 60 seconds
 a_default_for_a_minute : Answers
@@ -87,7 +88,7 @@ a_default_for_a_minute : Answers
     ∷ codes "now=259" ∷ codes "status assessments=enabled rules=0 receipts=0 objects=1 now=259" ∷ codes "now=260"
     ∷ codes "status assessments=enabled rules=0 receipts=0 objects=0 now=260" ∷ [])
 unfolding digits decode_pairs places add_front content_text verdict_text status_line
-a_default_for_a_minute = (_, (_, _, refl, (refl, refl), (_, _, refl, (refl, refl), (_, _, refl, (refl, refl), (_, _, refl, (refl, refl), (_, _, refl, (refl, refl), (_, _, refl, (refl, refl), (_, _, refl, (refl, refl), refl))))))))
+a_default_for_a_minute = (_, (_, _, refl, inl (refl, refl), (_, _, refl, inl (refl, refl), (_, _, refl, inl (refl, refl), (_, _, refl, inl (refl, refl), (_, _, refl, inl (refl, refl), (_, _, refl, inl (refl, refl), (_, _, refl, inl (refl, refl), refl))))))))
 
 -- a key acts once, and an edit needs a rule
 repeats : IsRequirementText (codes "always") always → Answers
@@ -98,7 +99,16 @@ repeats : IsRequirementText (codes "always") always → Answers
     ∷ codes "refused edit 12 KeyReused edit=1 rules=1"
     ∷ codes "status assessments=enabled rules=1 receipts=1 objects=0 now=0" ∷ [])
 unfolding digits decode_pairs places add_front content_text verdict_text status_line
-repeats says = (_, (_, _, (_, refl, refl), (refl, refl), (_, _, (_, (Ok always, says, refl), refl), (refl, refl), (_, _, (_, (Ok always, says, refl), refl), (refl, refl), (_, _, (_, (Ok always, says, refl), refl), (refl, refl), (_, _, refl, (refl, refl), refl))))))
+repeats says = (_, (_, _, (_, refl, refl), inl (refl, refl), (_, _, (_, (Ok always, says, refl), refl), inl (refl, refl), (_, _, (_, (Ok always, says, refl), refl), inl (refl, refl), (_, _, (_, (Ok always, says, refl), refl), inl (refl, refl), (_, _, refl, inl (refl, refl), refl))))))
+
+-- an edit that the keeper failed to keep changed nothing, and may be tried again under its key
+not_kept : IsRequirementText (codes "always") always → Answers
+    (codes "add k1 execute allow 0 never - - always" ∷ codes "status" ∷ codes "add k1 execute allow 0 never - - always"
+    ∷ codes "add k1 execute allow 0 never - - always" ∷ [])
+    (codes "refused edit 16 KeeperFault" ∷ codes "status assessments=enabled rules=0 receipts=0 objects=0 now=0"
+    ∷ codes "ok edit=1 rules=1" ∷ codes "repeated edit=1 rules=1" ∷ [])
+unfolding digits decode_pairs places add_front content_text verdict_text status_line
+not_kept says = (_, (_, _, (_, (Ok always, says, refl), refl), inr (tt, (refl, refl)), (_, _, refl, inl (refl, refl), (_, _, (_, (Ok always, says, refl), refl), inl (refl, refl), (_, _, (_, (Ok always, says, refl), refl), inl (refl, refl), refl)))))
 
 -- the switch drops nothing: what is kept is the outcome before the override
 switched : IsRequirementText (codes "always") always → Answers
@@ -109,7 +119,7 @@ switched : IsRequirementText (codes "always") always → Answers
     ∷ codes "ok edit=3 rules=0"
     ∷ codes "rejected at=0 rule=1 latent=none label=Blocked override=none source=cache cache=none" ∷ [])
 unfolding digits decode_pairs places add_front content_text verdict_text status_line
-switched says = (_, (_, _, (_, (Ok always, says, refl), refl), (refl, refl), (_, _, (_, refl, refl), (refl, refl), (_, _, refl, (refl, refl), (_, _, (_, refl, refl), (refl, refl), (_, _, refl, (refl, refl), refl))))))
+switched says = (_, (_, _, (_, (Ok always, says, refl), refl), inl (refl, refl), (_, _, (_, refl, refl), inl (refl, refl), (_, _, refl, inl (refl, refl), (_, _, (_, refl, refl), inl (refl, refl), (_, _, refl, inl (refl, refl), refl))))))
 
 -- a disabled rule is latent, by its number and by its label
 disabled : IsRequirementText (codes "always") always → Answers
@@ -120,7 +130,7 @@ disabled : IsRequirementText (codes "always") always → Answers
     ∷ codes "ok edit=3 rules=1"
     ∷ codes "accepted at=0 rule=1 latent=none label=Dev%20ID override=none source=rules cache=kept" ∷ [])
 unfolding digits decode_pairs places add_front content_text verdict_text status_line
-disabled says = (_, (_, _, (_, (Ok always, says, refl), refl), (refl, refl), (_, _, (_, refl, refl), (refl, refl), (_, _, refl, (refl, refl), (_, _, (_, refl, refl), (refl, refl), (_, _, refl, (refl, refl), refl))))))
+disabled says = (_, (_, _, (_, (Ok always, says, refl), refl), inl (refl, refl), (_, _, (_, refl, refl), inl (refl, refl), (_, _, refl, inl (refl, refl), (_, _, (_, refl, refl), inl (refl, refl), (_, _, refl, inl (refl, refl), refl))))))
 
 -- of two that are begun the first is kept
 twice : Answers
@@ -133,7 +143,7 @@ twice : Answers
     ∷ codes "rejected at=0 rule=none latent=none label=no%20matching%20rule override=none source=rules cache=inhibited"
     ∷ [])
 unfolding digits decode_pairs places add_front content_text verdict_text status_line
-twice = (_, (_, _, refl, (refl, refl), (_, _, refl, (refl, refl), (_, _, refl, (refl, refl), (_, _, refl, (refl, refl), (_, _, refl, (refl, refl), refl))))))
+twice = (_, (_, _, refl, inl (refl, refl), (_, _, refl, inl (refl, refl), (_, _, refl, inl (refl, refl), (_, _, refl, inl (refl, refl), (_, _, refl, inl (refl, refl), refl))))))
 
 -- a number is begun once, and finished once
 numbers : Answers
@@ -144,7 +154,7 @@ numbers : Answers
     ∷ codes "refused session 22 SlotEmpty" ∷ codes "refused line 1 BadLine column=15"
     ∷ codes "refused line 4 BadMoment" ∷ [])
 unfolding digits decode_pairs places add_front content_text verdict_text status_line
-numbers = (_, (_, _, refl, (refl, refl), (_, _, refl, (refl, refl), (_, _, refl, (refl, refl), (_, _, refl, (refl, refl), (_, _, refl, (refl, refl), (_, _, refl, (refl, refl), (_, _, refl, (refl, refl), refl))))))))
+numbers = (_, (_, _, refl, inl (refl, refl), (_, _, refl, inl (refl, refl), (_, _, refl, inl (refl, refl), (_, _, refl, inl (refl, refl), (_, _, refl, inl (refl, refl), (_, _, refl, (refl, refl), (_, _, refl, (refl, refl), refl))))))))
 
 -- what the cache answered at its beginning stays so, whatever happened since
 known_when_begun : IsRequirementText (codes "always") always → Answers
@@ -158,7 +168,7 @@ known_when_begun : IsRequirementText (codes "always") always → Answers
     ∷ codes "rejected at=0 rule=none latent=none label=no%20matching%20rule override=none source=rules cache=kept"
     ∷ [])
 unfolding digits decode_pairs places add_front content_text verdict_text status_line
-known_when_begun says = (_, (_, _, (_, (Ok always, says, refl), refl), (refl, refl), (_, _, refl, (refl, refl), (_, _, refl, (refl, refl), (_, _, (_, refl, refl), (refl, refl), (_, _, refl, (refl, refl), (_, _, refl, (refl, refl), refl)))))))
+known_when_begun says = (_, (_, _, (_, (Ok always, says, refl), refl), inl (refl, refl), (_, _, refl, inl (refl, refl), (_, _, refl, inl (refl, refl), (_, _, (_, refl, refl), inl (refl, refl), (_, _, refl, inl (refl, refl), (_, _, refl, inl (refl, refl), refl)))))))
 
 no_lines : Answers [] []
 no_lines = (_, refl)

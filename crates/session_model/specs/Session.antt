@@ -1,9 +1,10 @@
 -- What a session is: lines, the reply to each, and the state that they lead to. This project's own.
-use Rattle.std.specs.Prelude.{◌≡◌, List, [], ◌∷◌, ◌++◌, length, ℕ, Result, Ok, Err}
+use Rattle.std.specs.Prelude.{◌≡◌, ◌⊎◌, List, [], ◌∷◌, ◌++◌, length, ℕ, Result, Ok, Err, codes}
 use Rattle.std.specs.List.{find}
 use Rattle.policy_model.specs.History.{Event, Opening, tables_of, now_of, edit_answer}
 use Rattle.policy_model.specs.History as event
 use Rattle.policy_model.specs.ReplyTexts.{now_text, answer_text}
+use Rattle.policy_model.specs.Tables.{IsAccepted}
 use Rattle.object_model.specs.Kept.{objects_of}
 use Rattle.line_model.specs.LineFaults.{LineFault, line_fault_text}
 use Rattle.session_model.specs.Lines.{Request, tick, assess, begin, finish, status, edit, IsAsked}
@@ -27,9 +28,22 @@ answered o s (finish n) = finishes o s n (find (has_number n) s.slots)
 answered o s status = happens event.look (status_text (tables_of o s.history) (length (objects_of o s.history)) (now_of o s.history)) s
 answered o s (edit e) = happens (event.edit e) (answer_text (edit_answer o s.history e)) s
 
--- the reply to what a line asks for, or to its fault, and the state after it
+-- the reply and the state after it are those of an answer
+abbrev pub IsAnswer : Answered → List ℕ → State → Type 0
+IsAnswer a reply after = (after ≡ a.after) × (reply ≡ a.reply)
+
+-- the reply to an edit that the keeper failed to keep
+abbrev pub keeper_fault_text : List ℕ
+keeper_fault_text = codes "refused edit 16 KeeperFault"
+
+-- the keeper fails to keep an edit that would be accepted, and nothing changes
+abbrev pub Fails : Opening → State → Request → List ℕ → State → Type 0
+Fails o s (edit e) reply after = IsAccepted (edit_answer o s.history e) × IsAnswer (happens (event.edit_failed e) keeper_fault_text s) reply after
+Fails o s other reply after = ⊥
+
+-- the reply to what a line asks for, or to its fault, and the state after it; that a keeper fails is the one free choice
 abbrev pub Replies : Opening → State → Result Request LineFault → List ℕ → State → Type 0
-Replies o s (Ok request) reply after = (after ≡ (answered o s request).after) × (reply ≡ (answered o s request).reply)
+Replies o s (Ok request) reply after = IsAnswer (answered o s request) reply after ⊎ Fails o s request reply after
 Replies o s (Err fault) reply after = (after ≡ s) × (reply ≡ line_fault_text fault)
 
 -- the lines get the replies, line by line, and lead from the state s to the state after

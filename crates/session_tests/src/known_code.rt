@@ -1,12 +1,7 @@
 //! Sessions over facts, whose replies were worked out by hand.
 
-use code_facts::FactTable;
-use desk_lines::session_lines;
-use desk_state::Desk;
-use gk_io::{CallNumbers, MemorySink, MemorySource};
-use line_session::Ended;
+use crate::sessions::is_session;
 use std::alloc::Global;
-use std::sync::Arc;
 
 // What is known of one program, as `examples/facts.csv` has it.
 #[rattlefmt::skip]
@@ -35,27 +30,9 @@ const SESSIONS: [(&str, &[u8], &[u8]); 6] = [
         b"ok edit=1 rules=1\nok edit=2 rules=1\nrejected at=0 rule=none latent=1 label=Developer%20ID override=none source=rules cache=kept\nrejected at=0 rule=none latent=none label=no%20matching%20rule override=none source=rules cache=kept\nok edit=3 rules=1\naccepted at=0 rule=1 latent=none label=Developer%20ID override=none source=rules cache=kept\nrefused edit 11 NoRule\nok edit=4 rules=0\naccepted at=0 rule=none latent=none label=no%20matching%20rule override=security%20disabled source=rules cache=kept\nstatus assessments=disabled rules=1 receipts=4 objects=2 now=0\n"),
 ];
 
-/// A desk that knows what a facts file says.
-fn desk_by(alloc: Global, facts: &[u8]) -> Option<Desk> {
-    let table = FactTable::read(alloc, facts).ok()?;
-    let facts = Arc::new(alloc, table).ok()?;
-    Some(Desk::fresh(alloc, facts))
-}
-
-/// Whether a session of that desk gives just these replies.
-fn is_session(alloc: Global, lines: &[u8], replies: &[u8]) -> Option<bool> {
-    let mut desk = desk_by(alloc, FACTS)?;
-    let bytes = Vec::from_slice(alloc, lines).ok()?;
-    let mut input = MemorySource::new(bytes, CallNumbers::new(alloc));
-    let mut output = MemorySink::with_room(alloc, 4_096, CallNumbers::new(alloc)).ok()?;
-    let ended = session_lines(alloc, &mut desk, &mut input, &mut output);
-    let is = ended == Ended::Fine && output.written() == replies;
-    Some(is)
-}
-
 fn all_are(alloc: Global) -> bool {
     for (_name, lines, replies) in SESSIONS {
-        if is_session(alloc, lines, replies) != Some(true) {
+        if is_session(alloc, FACTS, 0, lines, replies) != Some(true) {
             return false;
         }
     }

@@ -4,7 +4,6 @@ use Rattle.std.specs.Io.KnownBytes.{Appends}
 use Rattle.gk_io.specs.Told.{AppendsFront}
 use Rattle.policy_model.specs.History.{Opening}
 use Rattle.session_model.specs.Slots.{State}
-use Rattle.session_model.specs.Session.{Answers}
 use Rattle.gk_io.specs.Shelf.{File}
 use Rattle.spctl_cli.specs.Commands.{FileCommand, Command, session, on_files}
 use Rattle.spctl_cli.specs.CommandSays.{FilesSay}
@@ -14,7 +13,7 @@ use Rattle.line_reader.specs.Limits.{RunsPast}
 use Rattle.line_session.specs.Ends.{StopsBefore, BreaksOff, AtReadFault, AtLimit, AtWant}
 use Rattle.run_status.specs.declared.status.Status.{Status}
 use Rattle.run_status.specs.declared.status.Status.TheVariants.{Fine, Usage, ReadFault, WriteFault, SessionTooLong, OutOfMemory}
-use Rattle.spctl_cli.specs.Headline.{IsSession}
+use Rattle.spctl_cli.specs.Headline.{IsSession, Answers}
 use Rattle.spctl_cli.specs.LastLines.{read_fault_text, too_long_text, usage_text}
 
 -- the session stopped for this reason with its replies written, and behind them stands this line

@@ -4,6 +4,7 @@
 mod command;
 mod conclusion;
 mod last_line;
+mod no_store;
 mod on_files;
 mod program;
 

@@ -20,6 +20,7 @@ ghost use Rattle.spctl_cli.specs.Ends.{RunEnds, SessionEnds, UsageEnds, GavePast
 use crate::command::{Command, FileCommand, command_of};
 use crate::conclusion::conclude;
 use crate::last_line::end_with;
+use crate::no_store::NoStore;
 use crate::on_files::said_of_files;
 use desk_lines::session_lines;
 use desk_state::Desk;
@@ -144,7 +145,8 @@ fn session<S: Source, W: Sink>(alloc: Global, input: &mut S, output: &mut W) -> 
     let Ok(mut desk) = Desk::without_facts(alloc) else {
         return Status::OutOfMemory;
     };
-    let ended = session_lines(alloc, &mut desk, input, output);
+    let mut store = NoStore;
+    let ended = session_lines(alloc, &mut desk, &mut store, input, output);
     drop(desk);
     match ended {
         Ended::Fine => Status::Fine,

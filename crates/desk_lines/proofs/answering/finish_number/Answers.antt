@@ -1,23 +1,25 @@
 -- The one of a number is taken out and finished, or there is none.
-use Rattle.std.proofs.Common.{◌≡◌, None, refl, sym}
+use Rattle.std.proofs.Common.{◌≡◌, None, refl, inl, sym}
 use Rattle.std.specs.List.{find}
 use Rattle.session_model.specs.Slots.{has_number, without}
 use Rattle.session_model.specs.Finishing.{offer_of, finished_history}
 use Rattle.desk_lines.proofs.Opens.{taken, none_found}
+use Rattle.desk_lines.proofs.Failed.{shows_none, shows_offer}
 use Rattle.desk_lines.proofs.Finishes.{left_open, when_ok, get_ok}
 use Rattle.desk_lines.proofs.answering.finish_number.Goals as goal
 
 pub returns-in-None-clause-replies : goal.returns-in-None-clause-replies
-returns-in-None-clause-replies c = λ o s stands stand.
+returns-in-None-clause-replies c = λ n o s stands stand.
     let none : find (has_number c.args.number) s.slots ≡ None = none_found o s.history 0 c.args.number c.args.slots.now.items s.slots stand (sym c.in-None.ensures.taken) in
-    (s, (rw none refl, rw (none, c.push_all.ensures.text, c.requires) refl), stands, rw c.in-None.ensures.absent stand)
+    (s, inl (rw none refl, rw (none, c.push_all.ensures.text, c.requires) refl), stands, rw c.in-None.ensures.absent stand, shows_none s.history n)
 
 pub returns-in-Some-clause-replies : goal.returns-in-Some-clause-replies
-returns-in-Some-clause-replies c = when_ok c.finish.result _ (λ ok o s stands stand.
+returns-in-Some-clause-replies c = when_ok c.finish.result _ (λ ok n o s stands stand.
     let t = taken c.a_ticket_is_enough.ensures.stays o s.history 0 c.args.number c.in-Some.slot c.args.slots.now.items s.slots (sym c.in-Some.ensures.taken) stand in
     let done = get_ok c.finish.result _ (c.finish.ensures.finished o s.history t.slot.place t.is.asked stands t.is.stands t.is.held) ok in (
       record { history = finished_history o s.history t.slot.place t.is.asked; slots = without c.args.number s.slots },
-      (rw (t.found, t.is.stands) refl, rw (t.found, t.is.stands) done.0),
+      inl (rw (t.found, t.is.stands) refl, rw (t.found, t.is.stands) done.0),
       done.1,
       rw c.in-Some.ensures.left (left_open o s.history 0 c.args.number c.in-Some.slot c.args.slots.now.items s.slots t (offer_of o s.history t.slot.place t.is.asked t.is.asked.subject)),
+      shows_offer (offer_of o s.history t.slot.place t.is.asked t.is.asked.subject) t.slot.place s.history n,
     ))

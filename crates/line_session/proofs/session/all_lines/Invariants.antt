@@ -7,6 +7,7 @@ use Rattle.line_session.proofs.session.all_lines.Given as goal
 
 abbrev pub invariant-loop-ended : goal.invariant-loop-ended
 invariant-loop-ended g l = record {
+  ready : g.R.Responder.ready l.responder;
   going : IsGoing (g.R.Responder.answered l.fn.responder l.responder) (g.S.Source.left l.fn.input) (stream l.reader (g.S.Source.left l.input)) (g.W.Sink.written l.fn.output) (g.W.Sink.written l.output);
   flushed : IsFlushed (g.W.Sink.flushed l.fn.output) (g.W.Sink.written l.fn.output) → IsFlushed (g.W.Sink.flushed l.output) (g.W.Sink.written l.output);
   input_telling : StaysTold (g.S.Source.left l.fn.input) (g.S.Source.left l.input);

@@ -24,10 +24,10 @@ pub returns-in-Ok-clause-past : goal.returns-in-Ok-clause-past
 returns-in-Ok-clause-past g c = λ bytes told past is. read_within c.limits_are_passed_once.ensures.apart _ _ _ _ _ bytes told (rw is at c.all_lines.ensures.ends) past
 
 pub returns-in-Err-clause-out_of_memory : goal.returns-in-Err-clause-out_of_memory
-returns-in-Err-clause-out_of_memory g c = λ is. stops_at_once _ _ _ c.requires
+returns-in-Err-clause-out_of_memory g c = λ is. stops_at_once _ _ _ c.requires.answered
 
 pub returns-in-Ok-clause-answered : goal.returns-in-Ok-clause-answered
 returns-in-Ok-clause-answered g c = is_answered _ _ _ _ _ _ c.all_lines.ensures.ends
 
 pub returns-in-Err-clause-answered : goal.returns-in-Err-clause-answered
-returns-in-Err-clause-answered g c = ([], [], c.requires)
+returns-in-Err-clause-answered g c = ([], [], c.requires.answered)
