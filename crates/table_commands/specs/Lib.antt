@@ -1,0 +1,5 @@
+pub mod Replies
+pub mod Steps
+pub mod EditSays
+pub mod ImportSays
+pub mod TableSays
