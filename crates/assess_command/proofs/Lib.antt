@@ -1,2 +1,3 @@
 pub mod PartsInTurn
 pub mod OneLine
+mod Finishes

@@ -4,7 +4,6 @@ use Rattle.std.specs.Prelude.{codes, ◌++◌}
 use Rattle.req_tree.specs.Subject.{Subject}
 use Rattle.policy_model.specs.Rules.{Kind}
 use Rattle.policy_model.specs.History.{Event, Opening}
-use Rattle.policy_model.specs.ReplyTexts.{verdict_text, origin_on, fate_on}
 use Rattle.code_directory.specs.declared.fault.CodeFault.{CodeFault}
 use Rattle.code_directory.specs.FaultText.{code_fault_text}
 use Rattle.code_directory.specs.Signatures.{View, Views, SignatureFails, subject}
@@ -12,7 +11,7 @@ use Rattle.code_directory.specs.Agreement.{PagesAgree, CodeFails}
 use Rattle.assess_command.specs.declared.line.Assessed.{Assessed}
 use Rattle.assess_command.specs.declared.line.Assessed.TheVariants.{Accepted, Rejected, Refused}
 use Rattle.assess_command.specs.Files.{checked_parts, PartsAgree, PartsFail, CodeAgrees, CodeDiffers, Passes, IsSubject, SignedFails, FilesFail}
-use Rattle.assess_command.specs.Assessments.{ask_on, answer_at, Judged, IsRefused, Assesses}
+use Rattle.assess_command.specs.Assessments.{ask_on, answer_at, line_at, Judged, IsRefused, Assesses}
 
 -- laws of signatures and of code
 pub record Laws : Type 0 where
@@ -98,7 +97,7 @@ allows_alike laws o h kind signature code seconds allow also line another a b =
 lines_alike : Laws → (o : Opening) (h : List Event) (kind : Kind) (signature : List ℕ) (code : Option (List ℕ)) (seconds : ℕ) (allow also : Bool) (line another : List ℕ)
     → Judged o h kind signature code seconds allow line → Judged o h kind signature code seconds also another → line ≡ another
 lines_alike laws o h kind signature code seconds allow also line another a b =
-    a.answered.line_is ∙ ap (λ s. verdict_text (answer_at o h (ask_on kind s) seconds) (origin_on s) (fate_on s)) (subject_one laws signature code a.subject b.subject a.subject_is b.subject_is) ∙ sym b.answered.line_is
+    a.answered.line_is ∙ ap (λ s. line_at o h (ask_on kind s) seconds) (subject_one laws signature code a.subject b.subject a.subject_is b.subject_is) ∙ sym b.answered.line_is
 
 refusals_alike : Laws → (signature : List ℕ) (code : Option (List ℕ)) (line another : List ℕ) → IsRefused signature code line → IsRefused signature code another → line ≡ another
 refusals_alike laws signature code line another a b =

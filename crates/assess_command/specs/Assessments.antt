@@ -1,13 +1,13 @@
 -- The line that assesses a signature file. This project's own, after spctl(8), --assess.
-use Rattle.std.specs.Prelude.{ℕ, ◌≡◌, Bool, true, false, List, [], ◌∷◌, ◌++◌, Option, min, codes}
+use Rattle.std.specs.Prelude.{ℕ, ◌≡◌, Bool, true, false, List, [], ◌∷◌, ◌++◌, length, Option, min, if◌then◌else◌, codes}
 use Rattle.req_tree.specs.Subject.{Subject}
 use Rattle.code_directory.specs.declared.fault.CodeFault.{CodeFault}
 use Rattle.code_directory.specs.FaultText.{code_fault_text}
 use Rattle.policy_model.specs.declared.limits.TheConstants.{GREATEST_MOMENT}
 use Rattle.policy_model.specs.Rules.{Kind}
 use Rattle.policy_model.specs.Outcomes.{Ask, Verdict}
-use Rattle.policy_model.specs.History.{Event, Opening, tick, ask_answer}
-use Rattle.policy_model.specs.ReplyTexts.{verdict_text, origin_on, fate_on}
+use Rattle.policy_model.specs.History.{Event, Opening, tick, ask, ask_answer}
+use Rattle.session_model.specs.Finishing.{finished_text}
 use Rattle.assess_command.specs.declared.line.Assessed.{Assessed}
 use Rattle.assess_command.specs.declared.line.Assessed.TheVariants.{Accepted, Rejected, Refused}
 use Rattle.assess_command.specs.Files.{IsSubject, FilesFail}
@@ -20,14 +20,26 @@ moment_at seconds = min seconds GREATEST_MOMENT
 abbrev pub ask_on : Kind → Option Subject → Ask
 ask_on kind subject = record { kind = kind; subject = subject; keep = true }
 
+-- the history with a moment of the clock handed in
+abbrev pub at_moment : List Event → ℕ → List Event
+at_moment h seconds = h ++ tick (moment_at seconds) ∷ []
+
 -- the verdict on an ask at a moment of the clock, from an opening and a history on
 abbrev pub answer_at : Opening → List Event → Ask → ℕ → Verdict
-answer_at o h a seconds = ask_answer o (h ++ tick (moment_at seconds) ∷ []) a
+answer_at o h a seconds = ask_answer o (at_moment h seconds) a
+
+-- the line of an ask at a moment of the clock that is finished at once
+abbrev pub line_at : Opening → List Event → Ask → ℕ → List ℕ
+line_at o h a seconds = finished_text o (at_moment h seconds ++ ask a ∷ []) (length (at_moment h seconds)) a
 
 -- the verdict accepts or rejects, and this is its line
 pub record Answered (o : Opening) (h : List Event) (a : Ask) (seconds : ℕ) (allow : Bool) (line : List ℕ) : Type 0 where
   pub allows : (answer_at o h a seconds).allow ≡ allow
-  pub line_is : line ≡ verdict_text (answer_at o h a seconds) (origin_on a.subject) (fate_on a.subject)
+  pub line_is : line ≡ line_at o h a seconds
+
+-- accepted or rejected
+abbrev pub assessed_by : Bool → Assessed
+assessed_by allow = if allow then Accepted else Rejected
 
 -- how an ask is answered
 abbrev pub IsAnswered : Opening → List Event → Ask → ℕ → Assessed → List ℕ → Type 0

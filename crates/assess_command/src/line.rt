@@ -1,7 +1,15 @@
 //! The line that assesses a signature file.
 
-ghost use Rattle.std.specs.Prelude.{◌≡◌, ◌≤◌, [], ◌++◌, List, length, min, codes};
+ghost use Rattle.std.specs.Prelude.{◌≡◌, ◌≤◌, [], ◌++◌, ℕ, List, length, take, min, codes, IfOk, option_map};
 ghost use Rattle.line_text.specs.LineText.{line_bytes};
+ghost use Rattle.policy_model.specs.History.{ask_answer};
+ghost use Rattle.policy_model.specs.ReplyTexts.{verdict_text};
+ghost use Rattle.object_model.specs.Origins.{fate_of};
+ghost use Rattle.object_model.specs.Tickets.{IsTicketOf, ticket_ask};
+ghost use Rattle.object_cache.specs.Offered.{offered_of};
+ghost use Rattle.desk_ticket.specs.Ticket.{ticket_of};
+ghost use Rattle.desk_state.specs.Verdict.{verdict_of, origin_of};
+ghost use Rattle.session_model.specs.Finishing.{finished_text};
 ghost use Rattle.policy_model.specs.declared.limits.TheConstants.{GREATEST_MOMENT};
 ghost use Rattle.policy_model.specs.History.{Event, Opening};
 ghost use Rattle.authority_table.specs.Kind.{kind_of};
@@ -9,15 +17,16 @@ ghost use Rattle.assess.specs.Ask.{ask_of};
 ghost use Rattle.desk_state.specs.Stands.{Stands};
 ghost use Rattle.code_directory.specs.FaultText.{code_fault_text};
 ghost use Rattle.assess_command.specs.Files.{code_of};
-ghost use Rattle.assess_command.specs.Assessments.{Assesses, IsAnswered};
+ghost use Rattle.assess_command.specs.Assessments.{Assesses, IsAnswered, assessed_by};
 ghost use Rattle.assess_command.specs.Assessments as spec;
 
 use crate::files::subject_in;
 use authority_table::{Kind, Moment};
 use code_directory::CodeFault;
-use desk_state::{Ask, Desk};
+use desk_state::{Ask, Begun, Desk, Offered, Ticket, Verdict};
 use line_text::LineText;
 use policy_model::limits::GREATEST_MOMENT;
+use std::alloc::{AllocError, Global};
 
 /// What an assessment came to.
 #[derive(Clone, Copy, Drop, PartialEq, Eq)]
@@ -31,18 +40,19 @@ pub enum Assessed {
 }
 
 /// Assesses the code of a signature file by this desk, at these seconds of the clock: one line, without its
-/// end. The signature and the code are looked at where they lie.
+/// end; nothing is returned where it is out of memory. The signature and the code are looked at where they lie.
 pub fn assess_files(
+    alloc: Global,
     desk: &mut Desk,
     kind: Kind,
     signature: &[u8],
     code: Option<&[u8]>,
     now: u64,
     out: &mut LineText,
-) -> Assessed
+) -> Result<Assessed, AllocError>
     requires { line_bytes out.old ≡ [] }
     ensures says { (o : Opening) (h : List Event) → Stands desk.old o h
-        → Assesses o h (kind_of kind) signature.now (code_of code.entry) now result (line_bytes out.new) }
+        → IfOk result (λ how. Assesses o h (kind_of kind) signature.now (code_of code.entry) now how (line_bytes out.new)) }
     ensures room { length (line_bytes out.new) ≤ 1000 }
 {
     match subject_in(signature, code) {
@@ -52,21 +62,52 @@ pub fn assess_files(
                 subject,
                 keep: true,
             };
-            answer(desk, &ask, now, out)
+            answer(alloc, desk, &ask, now, out)
         }
-        Err(fault) => refuse(fault, out),
+        Err(fault) => Ok(refuse(fault, out)),
     }
 }
 
 /// Asks the desk at this moment.
-fn answer(desk: &mut Desk, ask: &Ask, now: u64, out: &mut LineText) -> Assessed
+fn answer(
+    alloc: Global,
+    desk: &mut Desk,
+    ask: &Ask,
+    now: u64,
+    out: &mut LineText,
+) -> Result<Assessed, AllocError>
     requires { line_bytes out.old ≡ [] }
-    ensures says { (o : Opening) (h : List Event) → Stands desk.old o h → IsAnswered o h (ask_of ask.now) now result (line_bytes out.new) }
+    ensures says { (o : Opening) (h : List Event) → Stands desk.old o h → IfOk result (λ how. IsAnswered o h (ask_of ask.now) now how (line_bytes out.new)) }
     ensures room { length (line_bytes out.new) ≤ 1000 }
 {
     desk.tick(moment_at(now));
-    let verdict = desk.ask(ask);
-    verdict.line_uncached(out);
+    match desk.begin(alloc, ask)? {
+        Begun::Known(verdict) => Ok(said(&verdict, None, out)),
+        Begun::Pending(ticket) => finish(desk, ticket, out),
+    }
+}
+
+/// Finishes an assessment with what its ticket judges.
+fn finish(desk: &mut Desk, ticket: Ticket, out: &mut LineText) -> Result<Assessed, AllocError>
+    requires { line_bytes out.old ≡ [] }
+    ensures room { length (line_bytes out.new) ≤ 1000 }
+    ensures finished { (o : Opening) (h : List Event) (k : ℕ) → Stands desk.old o h → IsTicketOf (ticket_of ticket) o h k
+        → IfOk result (λ how. (how ≡ assessed_by (ask_answer o (take k h) (ticket_ask (ticket_of ticket))).allow)
+        × (line_bytes out.new ≡ finished_text o h k (ticket_ask (ticket_of ticket)))) }
+{
+    let outcome = ticket.judge();
+    let finished = desk.finish(ticket, outcome)?;
+    Ok(said(&finished.verdict, Some(finished.offered), out))
+}
+
+/// Writes a verdict's line, with what became of its outcome.
+fn said(verdict: &Verdict, offered: Option<Offered>, out: &mut LineText) -> Assessed
+    requires { line_bytes out.old ≡ [] }
+    ensures how { result ≡ assessed_by (verdict_of verdict.now).allow }
+    ensures text { line_bytes out.new ≡ verdict_text (verdict_of verdict.now) (origin_of verdict.now.origin) (fate_of (option_map offered_of offered)) }
+    ensures room { length (line_bytes out.new) ≤ 1000 }
+{
+    verdict.line_into(offered, out);
     if verdict.allow {
         Assessed::Accepted
     } else {

@@ -46,7 +46,7 @@ missed_step : (test : Entry → Bool) (x : Entry) (xs : List Entry) (b : Bool) �
 missed_step test x xs true is ih h = absurd (one_there x (sym (ap (λ b. cond b (Some x) (find test xs)) is) ∙ h))
 missed_step test x xs false is ih h = grind (arith, is, ih (grind (arith, is, h)))
 
-missed_any : (test : Entry → Bool) (xs : List Entry) → find test xs ≡ None → list_any test xs ≡ false
+pub missed_any : (test : Entry → Bool) (xs : List Entry) → find test xs ≡ None → list_any test xs ≡ false
 missed_any test [] h = refl
 missed_any test (x ∷ xs) h = missed_step test x xs (test x) refl (missed_any test xs) h
 
@@ -68,7 +68,7 @@ by_found known d o h kind subject keep (Some e) v from s found is =
     (sym (ap (λ (p : Answer). p.0) pair) ∙ known d o h kind subject keep e s found, sym (ap (λ (p : Answer). p.1) pair) ∙ ap (λ b. if b then cache else rules) (sym there))
 
 -- what is known at once is the legal answer
-known_after : KnownAnswers → (d o : Opening) (h : List Event) (kind : Kind) (subject : Option Subject) (keep : Bool) (v : Verdict) (from : Origin) → Stands d o h → known_on d kind subject ≡ Some (v, from) →
+pub known_after : KnownAnswers → (d o : Opening) (h : List Event) (kind : Kind) (subject : Option Subject) (keep : Bool) (v : Verdict) (from : Origin) → Stands d o h → known_on d kind subject ≡ Some (v, from) →
     (v ≡ ask_answer o h (record { kind = kind; subject = subject; keep = keep })) × (from ≡ origin_with (objects_of o h) kind subject)
 known_after known d o h kind None keep v from s is =
     let pair = same_pair (decided d.tables.enabled d.now false None None (codes "no usable signature"), unsigned) (v, from) is in (
@@ -79,7 +79,7 @@ known_after known d o h kind None keep v from s is =
     )
 known_after known d o h kind (Some subject) keep v from s is = by_found known d o h kind subject keep (find (is_for kind subject) (filter (is_unexpired d.now) d.entries)) v from s refl is
 
-none_found : (d : Opening) (f : Option Entry) → by_entry d f ≡ None → f ≡ None
+pub none_found : (d : Opening) (f : Option Entry) → by_entry d f ≡ None → f ≡ None
 none_found d None h = refl
 none_found d (Some e) h = cc
 

@@ -6,3 +6,4 @@ mod Purged
 mod Edited
 mod Loads
 mod Keeps
+mod Judges

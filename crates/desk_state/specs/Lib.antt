@@ -10,3 +10,4 @@ pub mod Status
 pub mod Keeping
 pub mod Ready
 pub mod Loaded
+pub mod Judged

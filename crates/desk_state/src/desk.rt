@@ -10,6 +10,7 @@ ghost use Rattle.desk_state.specs.Cache.{AreAtMost};
 ghost use Rattle.store_model.specs.Kept.{IsKept};
 
 mod assessing;
+mod judging;
 mod keeping;
 mod listing;
 mod loading;
@@ -21,17 +22,13 @@ use crate::fits::edit_fits;
 use crate::plan::Plan;
 use crate::purging::purge;
 use crate::status::DeskStatus;
-use crate::verdict::{Origin, Verdict};
-use assess::Ask;
-use authority_table::{Found, Label, Moment, Prepared, RuleId, Table};
+use authority_table::{Moment, Prepared, Table};
 use code_facts::FactTable;
 use edit_receipts::{Receipt, Receipts};
-use fact_values::Facts;
 use object_cache::Objects;
 use object_model::laws::{a_desk_goes_on_standing, first_ranks_purge, kept_stays_right};
 use object_model::limits::MOST_ENTRIES;
-use policy_model::laws::{history_goes_on, ids_stay_own, keys_stay_own, one_outcome};
-use req_tree::Subject;
+use policy_model::laws::{history_goes_on, ids_stay_own};
 use rule_edits::{Edit, content_is, content_text};
 use std::alloc::{AllocError, Global};
 use std::sync::Arc;
@@ -58,29 +55,20 @@ pub struct Desk {
 
 impl Desk {
     ghost use Rattle.std.specs.Arc.{arc_value};
-    ghost use Rattle.req_tree.specs.Facts.{known_of, no_facts};
-    ghost use Rattle.req_tree.specs.Subject.{subject_of};
-    ghost use Rattle.fact_values.specs.Knowledge.{known_in};
+    ghost use Rattle.req_tree.specs.Facts.{no_facts};
     ghost use Rattle.code_facts.specs.Tables.{table_facts};
-    ghost use Rattle.policy_model.specs.History.{Event, Opening, fresh, now_of, ask_answer, edit_answer};
+    ghost use Rattle.policy_model.specs.History.{Event, Opening, fresh, now_of, edit_answer};
     ghost use Rattle.policy_model.specs.History as event;
     ghost use Rattle.policy_model.specs.declared.limits.TheConstants.{MOST_RULES, MOST_RECEIPTS};
-    ghost use Rattle.policy_model.specs.Rules.{Kind};
-    ghost use Rattle.policy_model.specs.Outcomes as policy;
     ghost use Rattle.policy_model.specs.Tables.{IsAccepted};
     ghost use Rattle.policy_model.specs.Edits.{does, at_new, kept};
     ghost use Rattle.policy_model.specs.Refusals.{refusal};
-    ghost use Rattle.policy_model.specs.ReplyTexts.{origin_on, rules};
-    ghost use Rattle.authority_table.specs.Label.{label_bytes};
-    ghost use Rattle.authority_table.specs.Found.{governing_row, latent_row};
-    ghost use Rattle.assess.specs.Ask.{ask_of};
     ghost use Rattle.rule_edits.specs.Edit.{edit_of};
     ghost use Rattle.edit_receipts.specs.Receipts.{receipt_of};
     ghost use Rattle.desk_state.specs.Answer.{given, IsDone};
     ghost use Rattle.desk_state.specs.Plan.{IsFor, with_plan, carried_out, next_receipt};
     ghost use Rattle.desk_state.specs.Accepted.{IsDoneAtNew};
     ghost use Rattle.desk_state.specs.Status.{IsStatus};
-    ghost use Rattle.desk_state.specs.Verdict.{verdict_of, origin_of};
     ghost use Rattle.desk_state.specs.Stands.{tables, moment_of, facts_of, cache_of, Stands};
     ghost use Rattle.desk_state.specs.Cache.{IsPurged, purged_so};
 
@@ -124,93 +112,6 @@ impl Desk {
         a_desk_goes_on_standing();
         self.moment = later(self.moment, at);
         self.moment
-    }
-
-    /// The verdict on an assessment that begins now.
-    pub fn ask(&self, ask: &Ask) -> Verdict
-        ensures verdict { verdict_of result ≡ policy.verdict (tables self.now).rows (tables self.now).enabled (facts_of self.now) (moment_of self.now) (ask_of ask.now) }
-        ensures origin { origin_of result.origin ≡ origin_on (ask_of ask.now).subject }
-
-        // After any history of this desk.
-        ensures legal { (o : Opening) (h : List Event) → Stands self.now o h → verdict_of result ≡ ask_answer o h (ask_of ask.now) }
-        ensures stands { (o : Opening) (h : List Event) → Stands self.now o h → Stands self.now o (h ++ event.ask (ask_of ask.now) ∷ []) }
-    {
-        a_desk_goes_on_standing();
-        one_outcome();
-        match &ask.subject {
-            None => self.decided(
-                false,
-                None,
-                None,
-                Label::holding(b"no usable signature"),
-                Origin::Unsigned,
-            ),
-            Some(subject) => {
-                let facts = self.facts_on(subject);
-                self.by_rules(self.table.find(ask.kind, subject, facts, self.moment))
-            }
-        }
-    }
-
-    /// What is known of the subject's hash.
-    fn facts_on(&self, subject: &Subject) -> Option<&Facts>
-        ensures { known_in result ≡ known_of (facts_of self.now) (subject_of subject.now).cdhash }
-    {
-        self.facts.facts_of(&subject.cdhash)
-    }
-
-    fn by_rules(&self, found: Found<'_>) -> Verdict
-        ensures verdict { (kind : Kind) → verdict_of result ≡ policy.verdict_by (tables self.now).enabled (moment_of self.now)
-            (policy.outcome_by (tables self.now).rows kind (moment_of self.now) (governing_row found.entry) (latent_row found.entry)) }
-        ensures origin { origin_of result.origin ≡ rules }
-    {
-        match (found.governing, found.latent) {
-            (Some(rule), _) => self.decided(
-                rule.allow,
-                Some(rule.id),
-                None,
-                rule.label.copied(),
-                Origin::Rules,
-            ),
-            (None, Some(rule)) => self.decided(
-                false,
-                None,
-                Some(rule.id),
-                rule.label.copied(),
-                Origin::Rules,
-            ),
-            (None, None) => self.decided(
-                false,
-                None,
-                None,
-                Label::holding(b"no matching rule"),
-                Origin::Rules,
-            ),
-        }
-    }
-
-    /// The verdict of this moment; a denial is overridden where assessments are switched off.
-    fn decided(
-        &self,
-        allow: bool,
-        rule: Option<RuleId>,
-        latent: Option<RuleId>,
-        label: Label,
-        origin: Origin,
-    ) -> Verdict
-        ensures verdict { verdict_of result ≡ policy.decided (tables self.now).enabled (moment_of self.now) allow rule latent (label_bytes label) }
-        ensures origin { result.origin ≡ origin }
-    {
-        let overridden = !allow && !self.enabled;
-        Verdict {
-            allow: allow || !self.enabled,
-            at: self.moment,
-            rule,
-            latent,
-            label,
-            overridden,
-            origin,
-        }
     }
 
     /// Makes an edit, or says that it was made before, or refuses it. All memory is taken before anything changes.

@@ -3,7 +3,7 @@
 ghost use Rattle.std.specs.Prelude.{◌≡◌, ◌+◌, ◌≤◌, ◌++◌, length, option_map};
 ghost use Rattle.line_text.specs.LineText.{line_bytes};
 ghost use Rattle.line_text.specs.declared.limits.TheConstants.{FRONT_LIMIT, LINE_ROOM};
-ghost use Rattle.policy_model.specs.ReplyTexts.{Fate, verdict_text, number_text, accepted_text, override_text, origin_text, fate_text, fate_by};
+ghost use Rattle.policy_model.specs.ReplyTexts.{Fate, verdict_text, number_text, accepted_text, override_text, origin_text, fate_text};
 ghost use Rattle.object_model.specs.Origins.{fate_of};
 ghost use Rattle.object_cache.specs.Offered.{offered_of};
 
@@ -52,15 +52,6 @@ impl Verdict {
         self.line_with(fate_word(offered), out)
     }
 
-    /// The same of a verdict whose outcome isn't kept.
-    pub fn line_uncached(&self, out: &mut LineText)
-        requires { length (line_bytes out.old) ≤ FRONT_LIMIT }
-        ensures text { line_bytes out.new ≡ line_bytes out.old ++ verdict_text (verdict_of self.now) (origin_of self.now.origin) (fate_by (origin_of self.now.origin)) }
-        ensures length { length (line_bytes out.new) ≤ length (line_bytes out.old) + 620 }
-    {
-        self.line_with(self.origin.uncached_word(), out)
-    }
-
     fn line_with(&self, fate: &[u8], out: &mut LineText)
         requires room { length (line_bytes out.old) ≤ FRONT_LIMIT }
         requires fate { length fate.now ≤ 9 }
@@ -97,18 +88,6 @@ impl Origin {
             Origin::Rules => b"rules",
             Origin::Cache => b"cache",
             Origin::Unsigned => b"unsigned",
-        }
-    }
-
-    /// What became of the outcome of a verdict of this origin, where none is kept.
-    fn uncached_word(self) -> &'static [u8]
-        ensures word { result.now ≡ fate_text (fate_by (origin_of self)) }
-        ensures length { length result.now ≤ 4 }
-    {
-        match self {
-            Origin::Rules => b"off",
-            Origin::Cache => b"none",
-            Origin::Unsigned => b"none",
         }
     }
 }

@@ -1,8 +1,8 @@
 //! What each kind of edit does, as it is printed.
-use crate::edits::{answers, prints};
+use crate::edits::{answers, assesses};
 use crate::made::{ask, ask_of, by_id, by_label, fresh_desk, rule_of, subject};
-use authority_table::{Kind, Moment, Selector};
-use desk_state::{Content, Desk, DeskStatus, Edit, EditKey};
+use authority_table::{Kind, Moment, Outcome, Selector};
+use desk_state::{Begun, Content, Desk, DeskStatus, Edit, EditKey};
 use rule_edits::{content_is, content_text};
 use std::alloc::Global;
 use std::test::Fail;
@@ -69,9 +69,23 @@ fn has_three_kinds(alloc: Global, desk: &mut Desk) -> bool {
     )
 }
 
-fn accepts(desk: &Desk, kind: Kind) -> bool {
-    let verdict = desk.ask(&ask_of(kind, subject()));
-    verdict.allow && !verdict.overridden
+// what the rules say now of code of this kind, which nothing is kept of
+fn judges(alloc: Global, desk: &Desk, kind: Kind) -> Option<bool> {
+    match desk.begin(alloc, &ask_of(kind, subject())).ok()? {
+        Begun::Known(_) => None,
+        Begun::Pending(ticket) => match ticket.judge() {
+            Outcome::Governed { allow, .. } => Some(allow),
+            Outcome::Default { .. } => Some(false),
+        },
+    }
+}
+
+fn accepts(alloc: Global, desk: &Desk, kind: Kind) -> bool {
+    judges(alloc, desk, kind) == Some(true)
+}
+
+fn rejects(alloc: Global, desk: &Desk, kind: Kind) -> bool {
+    judges(alloc, desk, kind) == Some(false)
 }
 
 fn has(status: DeskStatus, enabled: bool, rules: u32, receipts: u32, now: u64) -> bool {
@@ -99,8 +113,8 @@ fn counted(alloc: Global, desk: &mut Desk) -> bool {
             disable(by_label(b"a", None)),
             b"ok edit=4 rules=3",
         )
-        && !accepts(desk, Kind::Execute)
-        && !accepts(desk, Kind::Install)
+        && rejects(alloc, desk, Kind::Execute)
+        && rejects(alloc, desk, Kind::Install)
         && says(
             alloc,
             desk,
@@ -115,8 +129,8 @@ fn counted(alloc: Global, desk: &mut Desk) -> bool {
             enable(by_id(1, None)),
             b"ok edit=6 rules=1",
         )
-        && accepts(desk, Kind::Execute)
-        && !accepts(desk, Kind::Install)
+        && accepts(alloc, desk, Kind::Execute)
+        && rejects(alloc, desk, Kind::Install)
         && says(
             alloc,
             desk,
@@ -124,8 +138,8 @@ fn counted(alloc: Global, desk: &mut Desk) -> bool {
             enable(by_label(b"a", None)),
             b"ok edit=7 rules=3",
         )
-        && accepts(desk, Kind::Execute)
-        && accepts(desk, Kind::Install)
+        && accepts(alloc, desk, Kind::Execute)
+        && accepts(alloc, desk, Kind::Install)
         && has(desk.status(), true, 3, 7, 0)
 }
 
@@ -195,25 +209,29 @@ fn expiring(alloc: Global, desk: &mut Desk) -> bool {
             b"ok edit=5 rules=1",
         )
         && ticks(desk, 4)
-        && accepts(desk, Kind::Execute)
-        && accepts(desk, Kind::Install)
+        && accepts(alloc, desk, Kind::Execute)
+        && accepts(alloc, desk, Kind::Install)
         && ticks(desk, 2_000)
-        && !accepts(desk, Kind::Execute)
-        && accepts(desk, Kind::Install)
+        && rejects(alloc, desk, Kind::Execute)
+        && accepts(alloc, desk, Kind::Install)
         && has(desk.status(), true, 3, 5, 2_000)
 }
 
-fn overrides(desk: &Desk) -> bool {
-    prints(
-        &desk.ask(&ask(subject())),
-        b"accepted at=0 rule=1 latent=none label=Blocked override=security%20disabled source=rules cache=off",
+fn overrides(alloc: Global, desk: &mut Desk) -> bool {
+    assesses(
+        alloc,
+        desk,
+        &ask(subject()),
+        b"accepted at=0 rule=1 latent=none label=Blocked override=security%20disabled source=rules cache=inhibited",
     )
 }
 
-fn denies(desk: &Desk) -> bool {
-    prints(
-        &desk.ask(&ask(subject())),
-        b"rejected at=0 rule=1 latent=none label=Blocked override=none source=rules cache=off",
+fn denies(alloc: Global, desk: &mut Desk) -> bool {
+    assesses(
+        alloc,
+        desk,
+        &ask(subject()),
+        b"rejected at=0 rule=1 latent=none label=Blocked override=none source=rules cache=inhibited",
     )
 }
 
@@ -226,10 +244,10 @@ fn switched(alloc: Global, desk: &mut Desk) -> bool {
         add(alloc, Kind::Execute, false, b"Blocked"),
         b"ok edit=1 rules=1",
     ) && says(alloc, desk, b"s1", switch(false), b"ok edit=2 rules=0")
-        && overrides(desk)
+        && overrides(alloc, desk)
         && has(desk.status(), false, 1, 2, 0)
         && says(alloc, desk, b"s2", switch(true), b"ok edit=3 rules=0")
-        && denies(desk)
+        && denies(alloc, desk)
         && says(
             alloc,
             desk,

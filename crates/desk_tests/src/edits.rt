@@ -1,7 +1,9 @@
 //! What a desk answers to edits and assessments, as it is printed.
 use crate::made::{ask, edit, fresh_desk, new_rule, subject};
 use authority_table::Moment;
-use desk_state::{Answer, Content, Desk, Edit, EditFault, Verdict};
+use desk_state::{
+    Answer, Ask, Begun, Content, Desk, Edit, EditFault, Finished, Judged, Looked, Ticket,
+};
 use req_tree::LineText;
 use rule_edits::{content_is, content_text};
 use std::alloc::Global;
@@ -16,10 +18,23 @@ pub fn answers(answer: &Result<Answer, EditFault>, text: &[u8]) -> bool {
     out.as_slice() == text
 }
 
-pub fn prints(verdict: &Verdict, text: &[u8]) -> bool {
+/// Whether this is the line of an assessment that is finished as it begins.
+pub fn assesses(alloc: Global, desk: &mut Desk, ask: &Ask, text: &[u8]) -> bool {
     let mut out = LineText::new();
-    verdict.line_uncached(&mut out);
+    match desk.begin(alloc, ask) {
+        Err(_) => return false,
+        Ok(Begun::Known(verdict)) => verdict.line_into(None, &mut out),
+        Ok(Begun::Pending(ticket)) => match finished(desk, ticket) {
+            None => return false,
+            Some(finished) => finished.verdict.line_into(Some(finished.offered), &mut out),
+        },
+    }
     out.as_slice() == text
+}
+
+fn finished(desk: &mut Desk, ticket: Ticket) -> Option<Finished> {
+    let outcome = ticket.judge();
+    desk.finish(ticket, outcome).ok()
 }
 
 fn refusal_prints(fault: EditFault, text: &[u8]) -> bool {
@@ -52,9 +67,11 @@ fn one_key(alloc: Global) -> Option<bool> {
 // the rule that an edit added decides until it ends
 fn one_rule(alloc: Global) -> Option<bool> {
     let mut desk = fresh_desk(alloc)?;
-    let none = prints(
-        &desk.ask(&ask(subject())),
-        b"rejected at=0 rule=none latent=none label=no%20matching%20rule override=none source=rules cache=off",
+    let none = assesses(
+        alloc,
+        &mut desk,
+        &ask(subject()),
+        b"rejected at=0 rule=none latent=none label=no%20matching%20rule override=none source=rules cache=kept",
     );
     let added = made(
         alloc,
@@ -63,20 +80,75 @@ fn one_rule(alloc: Global) -> Option<bool> {
         b"ok edit=1 rules=1",
     );
     let first = desk.tick(Moment::of(999)?).get() == 999;
-    let decides = prints(
-        &desk.ask(&ask(subject())),
-        b"accepted at=999 rule=1 latent=none label=a%20b override=none source=rules cache=off",
+    let decides = assesses(
+        alloc,
+        &mut desk,
+        &ask(subject()),
+        b"accepted at=999 rule=1 latent=none label=a%20b override=none source=rules cache=inhibited",
     );
     let second = desk.tick(Moment::of(1000)?).get() == 1000;
-    let ended = prints(
-        &desk.ask(&ask(subject())),
-        b"rejected at=1000 rule=none latent=none label=no%20matching%20rule override=none source=rules cache=off",
+    let ended = assesses(
+        alloc,
+        &mut desk,
+        &ask(subject()),
+        b"rejected at=1000 rule=none latent=none label=no%20matching%20rule override=none source=rules cache=kept",
     );
-    let unsigned = prints(
-        &desk.ask(&ask(None)),
+    let unsigned = assesses(
+        alloc,
+        &mut desk,
+        &ask(None),
         b"rejected at=1000 rule=none latent=none label=no%20usable%20signature override=none source=unsigned cache=none",
     );
     Some(none && added && first && decides && second && ended && unsigned)
+}
+
+fn judged(desk: &Desk, ask: &Ask) -> Option<Judged> {
+    match desk.judge(ask) {
+        Looked::Known(_) => None,
+        Looked::Open(judged) => Some(judged),
+    }
+}
+
+fn settles(desk: &mut Desk, judged: Judged, text: &[u8]) -> bool {
+    match desk.settle(judged) {
+        Err(_) => false,
+        Ok(finished) => {
+            let mut out = LineText::new();
+            finished.verdict.line_into(Some(finished.offered), &mut out);
+            out.as_slice() == text
+        }
+    }
+}
+
+// what was judged before an edit is as of its beginning, and isn't kept
+fn one_judged(alloc: Global) -> Option<bool> {
+    let mut desk = fresh_desk(alloc)?;
+    let before = judged(&desk, &ask(subject()))?;
+    let added = made(
+        alloc,
+        &mut desk,
+        &edit(alloc, b"k1", true)?,
+        b"ok edit=1 rules=1",
+    );
+    let after = judged(&desk, &ask(subject()))?;
+    let moved = settles(
+        &mut desk,
+        before,
+        b"rejected at=0 rule=none latent=none label=no%20matching%20rule override=none source=rules cache=moved",
+    );
+    let inhibited = settles(
+        &mut desk,
+        after,
+        b"accepted at=0 rule=1 latent=none label=a%20b override=none source=rules cache=inhibited",
+    );
+    let unsigned = judged(&desk, &ask(None)).is_none();
+    Some(added && moved && inhibited && unsigned)
+}
+
+#[test]
+fn what_was_judged_is_as_of_its_beginning(rt: HostRuntime) -> Result<(), Fail> {
+    assert!(rt; one_judged(rt.alloc()) == Some(true));
+    Ok(())
 }
 
 // the canonical text of an edit, which is told again

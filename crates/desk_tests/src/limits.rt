@@ -78,3 +78,75 @@ fn a_rule_is_disabled_a_thousand_times(rt: HostRuntime) -> Result<(), Fail> {
     assert!(rt; disables(rt.alloc()));
     Ok(())
 }
+
+// an edit under a key of this number is accepted
+fn is_made(alloc: Global, desk: &mut Desk, number: u64, content: Option<Content>) -> bool {
+    match (number_key(number), content) {
+        (Some(key), Some(content)) => {
+            let edit = Edit { key, content };
+            desk.edit(alloc, &edit).is_ok()
+        }
+        _ => false,
+    }
+}
+
+fn add(alloc: Global) -> Option<Content> {
+    rule_of(alloc, Kind::Execute, true, b"a").map(Content::Add)
+}
+
+// ten thousand rules and no more
+fn most_rules(alloc: Global, desk: &mut Desk) -> bool {
+    let mut all = true;
+    for number in 0..10_000 {
+        all = is_made(alloc, desk, number, add(alloc)) && all;
+    }
+    all && says(
+        alloc,
+        desk,
+        10_000,
+        add(alloc),
+        b"refused edit 13 TableFull",
+    )
+}
+
+// A hundred thousand edits and no more, on a desk that has ten thousand; what the rules refuse is still told first.
+fn most_edits(alloc: Global, desk: &mut Desk) -> bool {
+    let mut all = true;
+    for number in 10_000..100_000 {
+        all = is_made(alloc, desk, number, Some(Content::Switch(true))) && all;
+    }
+    all && says(
+        alloc,
+        desk,
+        100_000,
+        Some(Content::Switch(true)),
+        b"refused edit 14 ReceiptsFull",
+    ) && says(
+        alloc,
+        desk,
+        100_000,
+        by_id(10_001, None).map(Content::Remove),
+        b"refused edit 11 NoRule",
+    ) && says(
+        alloc,
+        desk,
+        99_999,
+        Some(Content::Switch(true)),
+        b"repeated edit=100000 rules=0",
+    )
+}
+
+fn fills(alloc: Global) -> bool {
+    match fresh_desk(alloc) {
+        None => false,
+        Some(mut desk) => most_rules(alloc, &mut desk) && most_edits(alloc, &mut desk),
+    }
+}
+
+#[test]
+fn a_desk_has_ten_thousand_rules_and_takes_a_hundred_thousand_edits(
+    rt: HostRuntime,
+) -> Result<(), Fail> {
+    assert!(rt; fills(rt.alloc()));
+    Ok(())
+}

@@ -135,7 +135,7 @@ fn said_at(
     ensures spoken { IfOk result (λ said. IsSpoken said.status) }
 {
     let mut line = LineText::new();
-    let how = assess_files(desk, kind, signature, code, now, &mut line);
+    let how = assess_files(alloc, desk, kind, signature, code, now, &mut line)?;
     line.push(b'\n');
     Ok(Said {
         status: status_by(how),

@@ -18,7 +18,7 @@ const SIGNATURE: &[u8] = b"fade0cc0000000c4000000010000000000000014fade0c0200000
 const WITH_REQUIREMENTS: &[u8] = b"fade0cc0000000d800000002000000000000001c00000002000000ccfade0c02000000b0000205000000000000000070000000600000000000000002000010012002000c0000000000000000000000000000000000000000000000000000000000000000000000000000000000000000000000000000000000000000636f6d2e6578616d706c652e61707000ad7facb2586fc6e966c004d7d1d16b024f5805ff7cb47c7a85dabd8b48892ca76e340b9cffb37a989ca544e6bb780a2c78901d3fb33738768511a30617afa01dfade0c010000000c00000000";
 
 const DEFAULT: &[u8] =
-    b"rejected at=5 rule=none latent=none label=no%20matching%20rule override=none source=rules cache=off\n";
+    b"rejected at=5 rule=none latent=none label=no%20matching%20rule override=none source=rules cache=kept\n";
 
 const UNSIGNED: &[u8] =
     b"rejected at=5 rule=none latent=none label=no%20usable%20signature override=none source=unsigned cache=none\n";
