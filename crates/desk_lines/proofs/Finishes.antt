@@ -14,10 +14,11 @@ use Rattle.object_model.specs.Laws.{TicketStays}
 use Rattle.session_model.specs.Slots.{Slot}
 use Rattle.session_model.specs.Finishing.{offer_of, with_offer, finished_text, finished_history}
 use Rattle.desk_state.specs.Verdict.{verdict_of, origin_of}
-use Rattle.desk_state.specs.Begun.{Answer, known_on, IsBegun, BeginsAfter}
+use Rattle.desk_state.specs.Begun.{Answer, known_on}
+use Rattle.desk_state.specs.Judged.{IsLooked, LooksAfter}
 use Rattle.desk_state.specs.declared.verdict.Verdict as code
-use Rattle.desk_state.specs.declared.begun.Begun.{Begun}
-use Rattle.desk_state.specs.declared.begun.Begun.TheVariants.{Known, Pending}
+use Rattle.desk_state.specs.declared.judged.Looked.{Looked}
+use Rattle.desk_state.specs.declared.judged.Looked.TheVariants.{Known, Open}
 use Rattle.desk_lines.specs.declared.slots.OpenSlot.{OpenSlot}
 use Rattle.desk_lines.specs.Slots.{IsHeld, IsOpenAt, AreOpen}
 use Rattle.desk_lines.proofs.Places.{below, take_last}
@@ -64,11 +65,11 @@ not_by_rules d kind None x is by = cc
 not_by_rules d kind (Some s) x is by = kept_answer _ (find (is_for kind s) (filter (is_unexpired d.now) d.entries)) x is by
 
 -- what begins now is held as of its place
-pub held_now : (d o : Opening) (h : List Event) (a : Ask) (b : Begun) → IsBegun d a b → BeginsAfter o h a b → IsHeld o (h ++ ask a ∷ []) (length h) a b
-held_now d o h a (Known v) begun after =
+pub held_now : (d o : Opening) (h : List Event) (a : Ask) (l : Looked) → IsLooked d a l → LooksAfter o h a l → IsHeld o (h ++ ask a ∷ []) (length h) a l
+held_now d o h a (Known v) looked after =
     let same : take (length h) (h ++ ask a ∷ []) ≡ h = take_last h (ask a) in
-    rw same (after.0, after.1, not_by_rules d a.kind a.subject (verdict_of v, origin_of v.origin) begun)
-held_now d o h a (Pending t) begun after = after
+    rw same (after.0, after.1, not_by_rules d a.kind a.subject (verdict_of v, origin_of v.origin) looked)
+held_now d o h a (Open j) looked after = after
 
 number_apart : (n k : ℕ) → k < n → n ≢ k
 number_apart n k less same = omega (arith, less, same)

@@ -5,25 +5,24 @@ use Rattle.policy_model.specs.Outcomes.{Ask}
 use Rattle.policy_model.specs.History.{Event, ask, offer, Opening}
 use Rattle.object_model.specs.Laws.{TicketStays}
 use Rattle.session_model.specs.Slots.{Slot, has_number, but_first}
-use Rattle.desk_ticket.specs.Ticket.{ticket_of}
-use Rattle.desk_state.specs.declared.begun.Begun.{Begun}
-use Rattle.desk_state.specs.declared.begun.Begun.TheVariants.{Known, Pending}
+use Rattle.desk_state.specs.declared.judged.Looked.{Looked}
+use Rattle.desk_state.specs.declared.judged.Looked.TheVariants.{Known, Open}
 use Rattle.desk_lines.specs.declared.slots.OpenSlot.{OpenSlot}
 use Rattle.desk_lines.specs.Slots.{IsHeld, IsOpenAt, AreOpen}
 use Rattle.desk_lines.proofs.Places.{get_more, take_more, below}
 
-held_more : TicketStays → (o : Opening) (h : List Event) (k : ℕ) (a : Ask) (e : Event) (b : Begun) → slice_get h k ≡ Some (ask a) → e ≢ offer k → IsHeld o h k a b → IsHeld o (h ++ e ∷ []) k a b
+held_more : TicketStays → (o : Opening) (h : List Event) (k : ℕ) (a : Ask) (e : Event) (b : Looked) → slice_get h k ≡ Some (ask a) → e ≢ offer k → IsHeld o h k a b → IsHeld o (h ++ e ∷ []) k a b
 held_more stay o h k a e (Known v) at other held =
     let same : take k (h ++ e ∷ []) ≡ take k h = take_more h k (ask a) e at in
     rw same held
-held_more stay o h k a e (Pending t) at other held = stay (ticket_of t) o h k e other held
+held_more stay o h k a e (Open j) at other held = (held.0, held.1, stay held.0 o h k e other held.2)
 
 pub open_more : TicketStays → (o : Opening) (h : List Event) (e : Event) (c : OpenSlot) (s : Slot) → e ≢ offer s.place → IsOpenAt o h c s → IsOpenAt o (h ++ e ∷ []) c s
 open_more stay o h e c s other is = record {
   number_is = is.number_is;
   asked = is.asked;
   stands = get_more h s.place (ask is.asked) e is.stands;
-  held = held_more stay o h s.place is.asked e c.begun is.stands other is.held;
+  held = held_more stay o h s.place is.asked e c.looked is.stands other is.held;
 }
 
 -- an event that is no offer of what is open

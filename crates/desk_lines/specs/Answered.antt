@@ -22,7 +22,7 @@ HasAnswered start now before counted lines replies =
     (o : Opening) (s : State) → BeginsAt start o s
     → (after : State) × Session o s lines replies after × Stands now o after.history × Shows s.history after.history before counted
 
--- the desk and what is open stand for a state; once a ticket is lost for want of memory, nothing is said of what is open
+-- the desk and what is open stand for a state; once an assessment is lost, as memory ran out, nothing is said of what is open
 abbrev pub IsAt : Desk → List OpenSlot → Bool → Opening → State → Type 0
 IsAt d slots lost o s = Stands d o s.history × (lost ≡ false → AreOpen o s.history 0 slots s.slots)
 

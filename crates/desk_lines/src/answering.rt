@@ -20,7 +20,7 @@ use desk_state::Desk;
 use line_text::LineText;
 use object_model::laws::a_ticket_is_enough;
 use session_model::limits::MOST_SLOTS;
-use std::alloc::{AllocError, Global};
+use std::alloc::AllocError;
 
 pub fn tick(desk: &mut Desk, at: Moment, out: &mut LineText)
     requires { line_bytes out.old ≡ [] }
@@ -44,12 +44,7 @@ pub fn status(desk: &Desk, out: &mut LineText)
     status_into(&standing, out);
 }
 
-pub fn assess(
-    desk: &mut Desk,
-    alloc: Global,
-    ask: &Ask,
-    out: &mut LineText,
-) -> Result<(), AllocError>
+pub fn assess(desk: &mut Desk, ask: &Ask, out: &mut LineText) -> Result<(), AllocError>
     requires { line_bytes out.old ≡ [] }
     ensures tables { tables desk.new ≡ tables desk.old }
     ensures room { length (line_bytes out.new) ≤ REPLY_LIMIT }
@@ -58,14 +53,13 @@ pub fn assess(
     ensures refuses { OnErr result ((o : Opening) (s : State) → Stands desk.old o s.history → Stands desk.new o s.history) }
 {
     a_ticket_is_enough();
-    let begun = desk.begin(alloc, ask)?;
-    finish(desk, begun, out)
+    let looked = desk.judge(ask);
+    finish(desk, looked, out)
 }
 
 pub fn begin(
     desk: &Desk,
     slots: &mut Vec<OpenSlot>,
-    alloc: Global,
     number: u32,
     ask: &Ask,
     out: &mut LineText,
@@ -83,14 +77,13 @@ pub fn begin(
         out.push_all(b"refused session 23 SlotsFull");
         Ok(())
     } else {
-        begin_now(desk, slots, alloc, number, ask, out)
+        begin_now(desk, slots, number, ask, out)
     }
 }
 
 fn begin_now(
     desk: &Desk,
     slots: &mut Vec<OpenSlot>,
-    alloc: Global,
     number: u32,
     ask: &Ask,
     out: &mut LineText,
@@ -101,8 +94,8 @@ fn begin_now(
     ensures refuses { OnErr result (slots.new.items ≡ slots.old.items) }
 {
     a_ticket_is_enough();
-    let begun = desk.begin(alloc, ask)?;
-    slots.push(OpenSlot { number, begun })?;
+    let looked = desk.judge(ask);
+    slots.push(OpenSlot { number, looked })?;
     let standing = desk.status();
     out.push_field(b"begun ", u64::from(number));
     out.push_field(b" at=", standing.now.get());
@@ -128,6 +121,6 @@ pub fn finish_number(
             out.push_all(b"refused session 22 SlotEmpty");
             Ok(())
         }
-        Some(slot) => finish(desk, slot.begun, out),
+        Some(slot) => finish(desk, slot.looked, out),
     }
 }

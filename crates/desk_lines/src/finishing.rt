@@ -7,46 +7,44 @@ ghost use Rattle.policy_model.specs.Outcomes as policy;
 ghost use Rattle.policy_model.specs.History.{Event, Opening};
 ghost use Rattle.policy_model.specs.History as event;
 ghost use Rattle.session_model.specs.Finishing.{finished_text, finished_history};
-ghost use Rattle.object_model.specs.Tickets.{IsTicketOf, ticket_ask};
-ghost use Rattle.desk_ticket.specs.Ticket.{ticket_of};
+ghost use Rattle.object_model.specs.Tickets.{Ticket, IsTicketOf, ticket_ask};
+ghost use Rattle.desk_state.specs.Judged.{IsJudged};
 ghost use Rattle.desk_state.specs.Stands.{tables, Stands};
 ghost use Rattle.desk_lines.specs.Slots.{IsHeld};
 
-use desk_state::{Begun, Desk, Ticket};
+use desk_state::{Desk, Judged, Looked};
 use line_text::LineText;
 use std::alloc::AllocError;
 
 /// Writes the reply to an assessment that is finished now. Out of memory, nothing of it was done.
-pub fn finish(desk: &mut Desk, begun: Begun, out: &mut LineText) -> Result<(), AllocError>
+pub fn finish(desk: &mut Desk, looked: Looked, out: &mut LineText) -> Result<(), AllocError>
     requires { line_bytes out.old ≡ [] }
     ensures tables { tables desk.new ≡ tables desk.old }
     ensures room { length (line_bytes out.new) ≤ REPLY_LIMIT }
     ensures finished { (o : Opening) (h : List Event) (k : ℕ) (a : policy.Ask)
-        → Stands desk.old o h → slice_get h k ≡ Some (event.ask a) → IsHeld o h k a begun
+        → Stands desk.old o h → slice_get h k ≡ Some (event.ask a) → IsHeld o h k a looked
         → OnOk result ((line_bytes out.new ≡ finished_text o h k a) × Stands desk.new o (finished_history o h k a)) }
     ensures unchanged { (o : Opening) (h : List Event) → Stands desk.old o h → OnErr result (Stands desk.new o h) }
 {
-    match begun {
-        Begun::Known(verdict) => {
+    match looked {
+        Looked::Known(verdict) => {
             verdict.line_into(None, out);
             Ok(())
         }
-        Begun::Pending(ticket) => finish_ticket(desk, ticket, out),
+        Looked::Open(judged) => finish_judged(desk, judged, out),
     }
 }
 
-fn finish_ticket(desk: &mut Desk, ticket: Ticket, out: &mut LineText) -> Result<(), AllocError>
+fn finish_judged(desk: &mut Desk, judged: Judged, out: &mut LineText) -> Result<(), AllocError>
     requires { line_bytes out.old ≡ [] }
     ensures tables { tables desk.new ≡ tables desk.old }
     ensures room { length (line_bytes out.new) ≤ REPLY_LIMIT }
-    ensures finished { (o : Opening) (h : List Event) (k : ℕ)
-        → Stands desk.old o h → IsTicketOf (ticket_of ticket) o h k
-        → OnOk result ((line_bytes out.new ≡ finished_text o h k (ticket_ask (ticket_of ticket)))
-        × Stands desk.new o (finished_history o h k (ticket_ask (ticket_of ticket)))) }
+    ensures finished { (o : Opening) (h : List Event) (k : ℕ) (t : Ticket)
+        → Stands desk.old o h → IsTicketOf t o h k → IsJudged judged t
+        → OnOk result ((line_bytes out.new ≡ finished_text o h k (ticket_ask t)) × Stands desk.new o (finished_history o h k (ticket_ask t))) }
     ensures unchanged { (o : Opening) (h : List Event) → Stands desk.old o h → OnErr result (Stands desk.new o h) }
 {
-    let outcome = ticket.judge();
-    let finished = desk.finish(ticket, outcome)?;
+    let finished = desk.settle(judged)?;
     finished.verdict.line_into(Some(finished.offered), out);
     Ok(())
 }

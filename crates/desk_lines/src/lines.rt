@@ -27,7 +27,7 @@ pub struct DeskLines<'a, K: Keeper> {
     pub desk: &'a mut Desk,
     pub keeper: &'a mut K,
     pub slots: &'a mut Vec<OpenSlot>,
-    /// A ticket was lost, as there was no memory to finish it: no line is answered any more.
+    /// An assessment was lost, as there was no memory to finish it: no line is answered any more.
     pub lost: bool,
 }
 
@@ -110,8 +110,8 @@ impl<'a, K: Keeper> DeskLines<'a, K> {
                 tick(self.desk, at, out);
                 Ok(())
             }
-            Request::Assess(ask) => assess(self.desk, alloc, &ask, out),
-            Request::Begin(number, ask) => begin(self.desk, self.slots, alloc, number, &ask, out),
+            Request::Assess(ask) => assess(self.desk, &ask, out),
+            Request::Begin(number, ask) => begin(self.desk, self.slots, number, &ask, out),
             Request::Finish(number) => self.finish(number, out),
             Request::Status => {
                 status(self.desk, out);

@@ -4,13 +4,13 @@ ghost use Rattle.std.specs.Prelude.{◌≡◌, ◌==◌, IfSome, IfNone};
 ghost use Rattle.std.specs.List.{find, position, list_any};
 ghost use Rattle.session_model.specs.Slots.{but_first};
 
-use desk_state::Begun;
+use desk_state::Looked;
 
 /// An assessment that is begun and not finished.
 #[derive(Drop)]
 pub struct OpenSlot {
     pub number: u32,
-    pub begun: Begun,
+    pub looked: Looked,
 }
 
 /// Whether one of this number is open.
