@@ -3,14 +3,14 @@
 
 mod help;
 
+use command_words::store_word;
 use gk_io::{FileShelf, StdSink, StdSource, SystemClock};
 use spctl_cli::{Status, run};
+use sql_keeper::ProgramKeeper;
 use std::alloc::AllocError;
-use std::env::{self, Args, Env};
-use std::fs::Files;
-use std::io::{self, ErrorKind, Input, Print};
+use std::env::{self, Args};
+use std::io::{self, ErrorKind};
 use std::process::ExitCode;
-use std::time::Clock;
 
 fn main(rt: HostRuntime) -> ExitCode {
     let status = match help::asked(&rt) {
@@ -20,7 +20,7 @@ fn main(rt: HostRuntime) -> ExitCode {
     ExitCode::from(status.code())
 }
 
-fn by_arguments<R: Env + Input + Print + Files + Clock + AllocGlobal>(rt: &R) -> Status {
+fn by_arguments(rt: &HostRuntime) -> Status {
     match env::args(rt) {
         Ok(args) => by_args(rt, args).unwrap_or(Status::OutOfMemory),
         Err(error) => by_no_words(rt, error.kind()),
@@ -28,10 +28,7 @@ fn by_arguments<R: Env + Input + Print + Files + Clock + AllocGlobal>(rt: &R) ->
 }
 
 /// The arguments, of which the first is the program's name.
-fn by_args<R: Input + Print + Files + Clock + AllocGlobal>(
-    rt: &R,
-    args: Args,
-) -> Result<Status, AllocError> {
+fn by_args(rt: &HostRuntime, args: Args) -> Result<Status, AllocError> {
     let mut all = Vec::new(rt.alloc());
     for arg in args.skip(1) {
         all.push(arg)?;
@@ -44,7 +41,7 @@ fn by_args<R: Input + Print + Files + Clock + AllocGlobal>(
 }
 
 /// Where the arguments could not be read. One that isn't text makes no command.
-fn by_no_words<R: Input + Print + Files + Clock + AllocGlobal>(rt: &R, why: ErrorKind) -> Status {
+fn by_no_words(rt: &HostRuntime, why: ErrorKind) -> Status {
     if why == ErrorKind::OutOfMemory {
         Status::OutOfMemory
     } else {
@@ -52,17 +49,29 @@ fn by_no_words<R: Input + Print + Files + Clock + AllocGlobal>(rt: &R, why: Erro
     }
 }
 
-fn by_words<R: Input + Print + Files + Clock + AllocGlobal>(rt: &R, words: &[&str]) -> Status {
+fn by_words(rt: &HostRuntime, words: &[&str]) -> Status {
+    match store_word(rt.alloc(), words) {
+        Ok(store) => over_store(rt, words, store),
+        Err(_) => Status::OutOfMemory,
+    }
+}
+
+/// Runs over the store of that name, which is opened where the command asks for it.
+fn over_store(rt: &HostRuntime, words: &[&str], store: &str) -> Status {
     let mut input = StdSource::new(rt.reader());
     let mut output = StdSink::new(io::writer(rt));
     let mut shelf = FileShelf::new(rt);
+    let mut keeper = ProgramKeeper::named(rt, store);
     let mut clock = SystemClock::new(rt);
-    run(
+    let status = run(
         rt.alloc(),
         words,
         &mut input,
         &mut output,
         &mut shelf,
+        &mut keeper,
         &mut clock,
-    )
+    );
+    keeper.close();
+    status
 }

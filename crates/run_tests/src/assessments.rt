@@ -4,6 +4,7 @@ ghost use Rattle.std.specs.Prelude.{None};
 
 use crate::devices::{clock, sink, source};
 use gk_io::{Fetched, Shelf, ShelfFault, Sink};
+use memory_keeper::MemoryKeeper;
 use spctl_cli::{Status, run};
 use std::alloc::{AllocError, Global};
 use std::test::Fail;
@@ -103,7 +104,15 @@ fn is_said(
         faults: 0,
     };
     let mut time = clock(alloc, now, &[2])?;
-    let ended = run(alloc, words, &mut input, &mut output, &mut files, &mut time);
+    let ended = run(
+        alloc,
+        words,
+        &mut input,
+        &mut output,
+        &mut files,
+        &mut MemoryKeeper::new(alloc),
+        &mut time,
+    );
     let is = ended == end && output.written() == written;
     drop(output);
     Ok(is)
@@ -247,6 +256,7 @@ fn a_clock_fails(alloc: Global) -> Result<bool, AllocError> {
         &mut input,
         &mut output,
         &mut files,
+        &mut MemoryKeeper::new(alloc),
         &mut time,
     );
     let is = ended == Status::ClockFault && output.written() == b"fault ClockFault\n".as_slice();

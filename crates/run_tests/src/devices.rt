@@ -3,12 +3,14 @@
 use gk_io::{
     CallNumbers, MemoryClock, MemoryFile, MemoryShelf, MemorySink, MemorySource, Sink, Source,
 };
+use memory_keeper::MemoryKeeper;
 use spctl_cli::{Status, run};
 use std::alloc::{AllocError, Global};
 
 pub const SESSION: [&str; 2] = [":memory:", "session"];
 
-fn numbers(alloc: Global, calls: &[u64]) -> Result<CallNumbers, AllocError> {
+/// These numbers of calls.
+pub fn numbers(alloc: Global, calls: &[u64]) -> Result<CallNumbers, AllocError> {
     let mut list = CallNumbers::new(alloc);
     for call in calls {
         list.push(*call)?;
@@ -58,7 +60,15 @@ pub fn run_on_file<W: Sink>(
     let mut input = source(alloc, b"", &[])?;
     let mut files = shelf(alloc, name, bytes, &[])?;
     let mut time = clock(alloc, 0, &[])?;
-    Ok(run(alloc, words, &mut input, output, &mut files, &mut time))
+    Ok(run(
+        alloc,
+        words,
+        &mut input,
+        output,
+        &mut files,
+        &mut MemoryKeeper::new(alloc),
+        &mut time,
+    ))
 }
 
 /// A run without files, at moment 0.
@@ -71,5 +81,13 @@ pub fn run_alone<S: Source, W: Sink>(
     let files: Vec<MemoryFile> = Vec::new(alloc);
     let mut shelf = MemoryShelf::new(files, CallNumbers::new(alloc));
     let mut clock = clock(alloc, 0, &[])?;
-    Ok(run(alloc, words, input, output, &mut shelf, &mut clock))
+    Ok(run(
+        alloc,
+        words,
+        input,
+        output,
+        &mut shelf,
+        &mut MemoryKeeper::new(alloc),
+        &mut clock,
+    ))
 }

@@ -1,6 +1,7 @@
 //! Files that aren't there or are too long, and devices that fail, under a command on a file.
 
 use crate::devices::{clock, run_on_file, shelf, sink, source};
+use memory_keeper::MemoryKeeper;
 use spctl_cli::{Status, run};
 use std::alloc::{AllocError, Global};
 use std::test::Fail;
@@ -98,6 +99,7 @@ fn is_cut(
         &mut input,
         &mut output,
         &mut files,
+        &mut MemoryKeeper::new(alloc),
         &mut time,
     );
     let unread = input.faults() == 0 && time.faults() == 0;

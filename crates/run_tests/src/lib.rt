@@ -26,4 +26,6 @@ mod sessions;
 #[cfg(test)]
 mod slots;
 #[cfg(test)]
+mod stores;
+#[cfg(test)]
 mod transcripts;

@@ -31,16 +31,19 @@ const SESSIONS: [(&str, &[u8], &[u8]); 8] = [
 
 const USAGE: &[u8] = b"usage: gatekeeper [--facts NAME] STORE COMMAND [WORDS]\n";
 
-const OTHER_WORDS: [&[&str]; 9] = [
+const OTHER_WORDS: [&[&str]; 12] = [
     &[],
     &["session"],
     &[":memory:"],
     &[":memory:", ""],
-    &["", "session"],
     &[":memory:", "frob"],
-    &[":store:", "session"],
     &[":memory:", "session", "now"],
+    &[":memory:", "status", "now"],
+    &[":memory:", "list", "now"],
+    &[":memory:", "import"],
     &["session", ":memory:"],
+    &["--facts", ":memory:", "session"],
+    &["--frob", ":memory:", "session"],
 ];
 
 /// Whether a run over these words and bytes ends so and writes just this.

@@ -1,7 +1,10 @@
 mod Concluded
 mod EndsOfSessions
-mod OneCommand
 mod Past
+mod Rehearsed
+mod Runs
+mod Starved
+mod WithoutDesk
 mod UsageAlone
 mod WouldSay
 mod Written

@@ -5,10 +5,11 @@ use Rattle.std.proofs.lemmas.List.{append_cancel_right}
 use Rattle.line_reader.specs.Lines.{text_of}
 use Rattle.line_reader.specs.Limits.{IsWithin, RunsPast}
 use Rattle.policy_model.specs.History.{Opening}
+use Rattle.spctl_cli.specs.Headline.{Kept}
 use Rattle.session_model.specs.Slots.{State}
 use Rattle.run_status.specs.declared.status.Status.{Status}
 use Rattle.run_status.specs.declared.status.Status.TheVariants.{Fine, Denied, Usage, ReadFault, WriteFault, ShelfFault, ClockFault, KeeperFault, FileMissing, FileTooLong, BadFacts, BadStore, Refused, SessionTooLong, OutOfMemory}
-use Rattle.spctl_cli.specs.Ends.{SessionEnds, UsageEnds, GavePast}
+use Rattle.spctl_cli.specs.Ends.{SessionEnds, UsageEnds, IsSpokenEnd, SpokenEnd, GavePast}
 
 -- bytes that are within the limits don't run past them
 within_or_past : (bytes : List ℕ) → IsWithin bytes → RunsPast bytes → ⊥
@@ -28,23 +29,23 @@ some_past (Some xs) None bytes told taken past = taken
 some_past (Some xs) (Some ys) bytes told taken past = (bytes, taken, past)
 
 -- a session that isn't cut short is too long exactly where a byte past the limits was given
-pub session_past : (o : Opening) (s : State) (left now written sent : Option (List ℕ)) (status : Status) → SessionEnds o s left now written sent status
+pub session_past : (kept : Kept) (o : Opening) (s : State) (left now written sent : Option (List ℕ)) (status : Status) → SessionEnds kept o s left now written sent status
     → IsSome left → status ≢ WriteFault → status ≢ OutOfMemory → ((status ≡ SessionTooLong) ↔ GavePast left now)
-session_past o s left now written sent Fine e told a b = (λ is. (cc), λ past. absurd (none_past left now e.1.bytes e.1.taken e.1.within past))
-session_past o s left now written sent Usage e told a b = absurd e
-session_past o s left now written sent Denied e told a b = absurd e
-session_past o s left now written sent ShelfFault e told a b = absurd e
-session_past o s left now written sent ClockFault e told a b = absurd e
-session_past o s left now written sent KeeperFault e told a b = absurd e
-session_past o s left now written sent FileMissing e told a b = absurd e
-session_past o s left now written sent FileTooLong e told a b = absurd e
-session_past o s left now written sent BadFacts e told a b = absurd e
-session_past o s left now written sent BadStore e told a b = absurd e
-session_past o s left now written sent Refused e told a b = absurd e
-session_past o s left now written sent ReadFault e told a b = (λ is. (cc), λ past. absurd (none_past left now (text_of e.stops.lines ++ e.stops.rest) e.stops.taken e.stops.why.1 past))
-session_past o s left now written sent WriteFault e told a b = absurd (a refl)
-session_past o s left now written sent SessionTooLong e told a b = (λ is. some_past left now (text_of e.stops.lines ++ e.stops.rest) told e.stops.taken e.stops.why.0, λ past. refl)
-session_past o s left now written sent OutOfMemory e told a b = absurd (b refl)
+session_past kept o s left now written sent Fine e told a b = (λ is. (cc), λ past. absurd (none_past left now e.1.bytes e.1.taken e.1.within past))
+session_past kept o s left now written sent Denied e told a b = absurd e
+session_past kept o s left now written sent Usage e told a b = absurd e
+session_past kept o s left now written sent ReadFault e told a b = (λ is. (cc), λ past. absurd (none_past left now (text_of e.stops.lines ++ e.stops.rest) e.stops.taken e.stops.why.1 past))
+session_past kept o s left now written sent WriteFault e told a b = absurd (a refl)
+session_past kept o s left now written sent ShelfFault e told a b = absurd e
+session_past kept o s left now written sent ClockFault e told a b = absurd e
+session_past kept o s left now written sent KeeperFault e told a b = absurd e
+session_past kept o s left now written sent FileMissing e told a b = absurd e
+session_past kept o s left now written sent FileTooLong e told a b = absurd e
+session_past kept o s left now written sent BadFacts e told a b = absurd e
+session_past kept o s left now written sent BadStore e told a b = absurd e
+session_past kept o s left now written sent Refused e told a b = absurd e
+session_past kept o s left now written sent SessionTooLong e told a b = (λ is. some_past left now (text_of e.stops.lines ++ e.stops.rest) told e.stops.taken e.stops.why.0, λ past. refl)
+session_past kept o s left now written sent OutOfMemory e told a b = absurd (b refl)
 
 -- what isn't read runs past no limit
 pub nothing_past : (left : Option (List ℕ)) → GavePast left left → ⊥
@@ -56,6 +57,9 @@ pub usage_past : (left now written sent : Option (List ℕ)) (status : Status) �
     → status ≢ WriteFault → status ≢ OutOfMemory → ((status ≡ SessionTooLong) ↔ GavePast left now)
 usage_past left now written sent Fine e a b = absurd e
 usage_past left now written sent Denied e a b = absurd e
+usage_past left now written sent Usage e a b = (λ is. (cc), λ past. absurd (nothing_past left (subst (GavePast left) e.unread past)))
+usage_past left now written sent ReadFault e a b = absurd e
+usage_past left now written sent WriteFault e a b = absurd (a refl)
 usage_past left now written sent ShelfFault e a b = absurd e
 usage_past left now written sent ClockFault e a b = absurd e
 usage_past left now written sent KeeperFault e a b = absurd e
@@ -64,8 +68,9 @@ usage_past left now written sent FileTooLong e a b = absurd e
 usage_past left now written sent BadFacts e a b = absurd e
 usage_past left now written sent BadStore e a b = absurd e
 usage_past left now written sent Refused e a b = absurd e
-usage_past left now written sent Usage e a b = (λ is. (cc), λ past. absurd (nothing_past left (subst (GavePast left) e.unread past)))
-usage_past left now written sent ReadFault e a b = absurd e
-usage_past left now written sent WriteFault e a b = absurd (a refl)
 usage_past left now written sent SessionTooLong e a b = absurd e
 usage_past left now written sent OutOfMemory e a b = absurd (b refl)
+
+-- and so does one that says one text
+pub spoken_past : (Says : Status → List ℕ → Type 0) (left now written sent : Option (List ℕ)) (status : Status) → SpokenEnd Says left now written sent status → ((status ≡ SessionTooLong) ↔ GavePast left now)
+spoken_past Says left now written sent status e = (λ is. absurd (subst IsSpokenEnd is e.end), λ past. absurd (nothing_past left (subst (GavePast left) e.unread past)))

@@ -8,6 +8,9 @@ use Rattle.spctl_cli.specs.Ends.{UsageEnds}
 pub usage_alone : (left now written sent : Option (List ℕ)) (status : Status) → UsageEnds left now written sent status → status ≢ WriteFault → status ≢ OutOfMemory → status ≡ Usage
 usage_alone left now written sent Fine e a b = absurd e
 usage_alone left now written sent Denied e a b = absurd e
+usage_alone left now written sent Usage e a b = refl
+usage_alone left now written sent ReadFault e a b = absurd e
+usage_alone left now written sent WriteFault e a b = absurd (a refl)
 usage_alone left now written sent ShelfFault e a b = absurd e
 usage_alone left now written sent ClockFault e a b = absurd e
 usage_alone left now written sent KeeperFault e a b = absurd e
@@ -16,12 +19,5 @@ usage_alone left now written sent FileTooLong e a b = absurd e
 usage_alone left now written sent BadFacts e a b = absurd e
 usage_alone left now written sent BadStore e a b = absurd e
 usage_alone left now written sent Refused e a b = absurd e
-usage_alone left now written sent Usage e a b = refl
-usage_alone left now written sent ReadFault e a b = absurd e
-usage_alone left now written sent WriteFault e a b = absurd (a refl)
 usage_alone left now written sent SessionTooLong e a b = absurd e
 usage_alone left now written sent OutOfMemory e a b = absurd (b refl)
-
--- its source never fails
-pub usage_not_read_fault : (left now written sent : Option (List ℕ)) (status : Status) → UsageEnds left now written sent status → status ≡ ReadFault → ⊥
-usage_not_read_fault left now written sent status e is = subst (UsageEnds left now written sent) is e

@@ -1,25 +1,29 @@
 -- When a command on files has something to say.
-use Rattle.std.proofs.Common.{◌≡◌, ◌≢◌, ◌↔◌, ℕ, ◌<◌, ◌≤◌, ◌⊎◌, Bool, true, false, List, Option, None, Some, length, inl, inr, arith, refl, sym, ap, ◌∙◌, subst}
+use Rattle.std.proofs.Common.{◌≡◌, ◌≢◌, ◌↔◌, ℕ, ◌<◌, ◌≤◌, ◌⊎◌, Bool, true, false, List, [], Option, None, Some, length, inl, inr, arith, refl, sym, ap, ◌∙◌, subst}
+use Rattle.std.specs.Prelude.{IsSome}
 use Rattle.gk_io.specs.Shelf.{File, file_named}
 use Rattle.policy_model.specs.Rules.{Kind}
 use Rattle.policy_model.specs.History.{Event, Opening}
-use Rattle.session_model.specs.Slots.{State}
+use Rattle.store_model.specs.Raw.{RawTables}
+use Rattle.policy_keeper.specs.Told.{Told}
 use Rattle.req_grammar.specs.declared.limits.TheConstants.{MOST_TEXT_BYTES}
 use Rattle.req_blob.specs.declared.limits.TheConstants.{MOST_BYTES}
 use Rattle.run_status.specs.declared.status.Status.{Status}
 use Rattle.run_status.specs.declared.status.Status.TheVariants.{Fine, Denied, Usage, ReadFault, WriteFault, ShelfFault, ClockFault, KeeperFault, FileMissing, FileTooLong, BadFacts, BadStore, Refused, SessionTooLong, OutOfMemory}
+use Rattle.run_status.specs.Files.{SaysWithoutFile, SaysOfFile, SaysOnFile}
 use Rattle.language_commands.specs.Taken.{TakenOrRefused}
-use Rattle.run_status.specs.Files.{SaysWithoutFile, SaysOnFile}
 use Rattle.language_commands.specs.Compiling.{Compiles}
 use Rattle.language_commands.specs.CompilingSets.{CompilesSet}
 use Rattle.language_commands.specs.Dumping.{Dumps, DumpsBy, begins_as_set}
 use Rattle.assess_command.specs.declared.line.Assessed.{Assessed}
 use Rattle.assess_command.specs.declared.line.Assessed.TheVariants as assessed
 use Rattle.file_assessment.specs.declared.limits.TheConstants.{MOST_SIGNATURE_BYTES, MOST_CODE_BYTES}
-use Rattle.file_assessment.specs.Assessing.{SaysByClock, SaysWithCode, status_of}
-use Rattle.spctl_cli.specs.Commands.{FileCommand, compile, compile_set, dump, assess}
-use Rattle.spctl_cli.specs.CommandSays.{FilesSay}
-use Rattle.spctl_cli.specs.Causes.{IsUncut, IsWorked, HasFile, HasFiles}
+use Rattle.file_assessment.specs.Assessing.{SaysByClock, SaysWithCode, SaysAssess, status_of}
+use Rattle.desk_opening.specs.Laws.{OpenedIsNotUnopened}
+use Rattle.command_words.specs.Table.{FileCommand, compile, compile_set, dump, assess}
+use Rattle.run_commands.specs.Says.{DeskSays, FilesSay}
+use Rattle.run_commands.specs.Laws.{TellsRows, IsTimeless, FilesHaveOneStatus, TimelessStatusIsOne}
+use Rattle.spctl_cli.specs.Causes.{IsUncut, IsWorked, HasFile, HasFiles, HasDesk, WouldSay}
 use Rattle.spctl_cli.specs.Conclusions.{Concludes}
 
 same_bytes : (found : Option (List ℕ)) (xs ys : List ℕ) → found ≡ Some xs → found ≡ Some ys → xs ≡ ys
@@ -57,22 +61,6 @@ there files name limit status bytes (inr long) found short =
     let same = ap length (same_bytes (file_named files name) long.1.0 bytes long.1.1 found) in
     omega (arith, same, short, long.1.2)
 
-one_without : (files : List File) (name : List ℕ) (limit : ℕ) (first second : Status) → IsWithout files name limit first → IsWithout files name limit second → first ≡ second
-one_without files name limit first second (inl a) (inl b) = a.0 ∙ sym b.0
-one_without files name limit first second (inr a) (inr b) = a.0 ∙ sym b.0
-one_without files name limit first second (inl a) (inr b) = absurd (not_both (file_named files name) b.1.0 a.1 b.1.1)
-one_without files name limit first second (inr a) (inl b) = absurd (not_both (file_named files name) a.1.0 b.1 a.1.1)
-
--- over files that are told, what a command says twice of one file has statuses that belong together, where its work has
-module _ (Same : Status → Status → Type 0) (same : (first second : Status) → first ≡ second → Same first second) (Work : List ℕ → Status → List ℕ → Type 0) (files : List File) (name : List ℕ) (limit : ℕ) where
-  one_on_file : ((bytes said other : List ℕ) (first second : Status) → Work bytes first said → Work bytes second other → Same first second) → (first second : Status) (said other : List ℕ)
-      → SaysOnFile Work (Some files) name limit first said → SaysOnFile Work (Some files) name limit second other → Same first second
-  one_on_file works first second said other (inl a) (inl b) = same first second (one_without files name limit first second (without files name limit first said a) (without files name limit second other b))
-  one_on_file works first second said other (inl a) (inr b) = absurd (there files name limit first b.bytes (without files name limit first said a) b.file.0 b.file.1)
-  one_on_file works first second said other (inr a) (inl b) = absurd (there files name limit second a.bytes (without files name limit second other b) a.file.0 a.file.1)
-  one_on_file works first second said other (inr a) (inr b) =
-      works b.bytes said other first second (subst (λ bytes. Work bytes first said) (same_bytes (file_named files name) a.bytes b.bytes a.file.0 b.file.0) a.says) b.says
-
 -- a command whose file is there does its work
 works_there : (Work : List ℕ → Status → List ℕ → Type 0) (files : List File) (name : List ℕ) (limit : ℕ) (status : Status) (said : List ℕ) → ((bytes : List ℕ) → Work bytes status said → IsWorked status) → HasFile files name limit → SaysOnFile Work (Some files) name limit status said → IsWorked status
 works_there Work files name limit status said done has (inl a) = absurd (there files name limit status has.0 (without files name limit status said a) has.1.0 has.1.1)
@@ -108,31 +96,49 @@ assessed_works assessed.Refused = tt
 clock_works : (o : Opening) (h : List Event) (moments : Option (List ℕ)) (kind : Kind) (signature : List ℕ) (code : Option (List ℕ)) (status : Status) (said : List ℕ) → SaysByClock o h moments kind signature code status said → IsWorked status
 clock_works o h moments kind signature code status said it = subst IsWorked (sym it.says.end_is) (assessed_works it.says.how)
 
-worked : (o : Opening) (s : State) (files : List File) (moments : Option (List ℕ)) (command : FileCommand) (status : Status) (said : List ℕ) → HasFiles files command → FilesSay o s (Some files) moments command status said → IsWorked status
-worked o s files moments (compile name) status said has says = works_there Compiles files name MOST_TEXT_BYTES status said (λ bytes h. taken_or_refused _ _ status said h) has says
-worked o s files moments (compile_set name) status said has says = works_there CompilesSet files name MOST_TEXT_BYTES status said (λ bytes h. taken_or_refused _ _ status said h) has says
-worked o s files moments (dump name) status said has says = works_there Dumps files name MOST_BYTES status said (λ bytes h. dump_works (begins_as_set bytes) bytes said status h) has says
-worked o s files moments (assess kind name None) status said has says =
-    works_there (SaysWithCode o s.history (Some files) moments kind None) files name MOST_SIGNATURE_BYTES status said (λ signature h. clock_works o s.history moments kind signature None status said h) has says
-worked o s files moments (assess kind name (Some code)) status said has says =
-    works_there (SaysWithCode o s.history (Some files) moments kind (Some code)) files name MOST_SIGNATURE_BYTES status said
-    (λ signature h. works_there (λ code. SaysByClock o s.history moments kind signature (Some code)) files code MOST_CODE_BYTES status said (λ bytes h. clock_works o s.history moments kind signature (Some bytes) status said h) has.1 h) has.0 says
+-- an assessment whose files are there does its work, by whatever desk
+assess_works : (o : Opening) (files : List File) (moments : Option (List ℕ)) (kind : Kind) (name : List ℕ) (code : Option (List ℕ)) (status : Status) (said : List ℕ) → HasFiles files (assess kind name code) → SaysAssess o [] (Some files) moments kind name code status said → IsWorked status
+assess_works o files moments kind name None status said has says =
+    works_there (SaysWithCode o [] (Some files) moments kind None) files name MOST_SIGNATURE_BYTES status said (λ signature h. clock_works o [] moments kind signature None status said h) has says
+assess_works o files moments kind name (Some code) status said has says =
+    works_there (SaysWithCode o [] (Some files) moments kind (Some code)) files name MOST_SIGNATURE_BYTES status said
+    (λ signature h. works_there (λ code. SaysByClock o [] moments kind signature (Some code)) files code MOST_CODE_BYTES status said (λ bytes h. clock_works o [] moments kind signature (Some bytes) status said h) has.1 h) has.0 says
 
-abbrev OneStatus : (List ℕ → Status → List ℕ → Type 0) → Type 0
-OneStatus Work = (bytes said other : List ℕ) (first second : Status) → Work bytes first said → Work bytes second other → first ≡ second
+nothing_told : IsSome {T = RawTables} None → ⊥
+nothing_told h = (cc)
 
--- what is said of files has statuses that belong together
-module _ (compiles : OneStatus Compiles) (sets : OneStatus CompilesSet) (dumps : OneStatus Dumps) (Same : Status → Status → Type 0) (same : (first second : Status) → first ≡ second → Same first second) (o : Opening) (s : State) (files : List File) (moments : Option (List ℕ)) where
-  one_said : ((kind : Kind) (signature : List ℕ) (code : Option (List ℕ)) (said other : List ℕ) (first second : Status) → SaysByClock o s.history moments kind signature code first said → SaysByClock o s.history moments kind signature code second other → Same first second)
-      → (command : FileCommand) (first second : Status) (said other : List ℕ) → FilesSay o s (Some files) moments command first said → FilesSay o s (Some files) moments command second other → Same first second
-  one_said clocks (compile name) first second said other a b = one_on_file Same same Compiles files name MOST_TEXT_BYTES (λ bytes x y p q h k. same p q (compiles bytes x y p q h k)) first second said other a b
-  one_said clocks (compile_set name) first second said other a b = one_on_file Same same CompilesSet files name MOST_TEXT_BYTES (λ bytes x y p q h k. same p q (sets bytes x y p q h k)) first second said other a b
-  one_said clocks (dump name) first second said other a b = one_on_file Same same Dumps files name MOST_BYTES (λ bytes x y p q h k. same p q (dumps bytes x y p q h k)) first second said other a b
-  one_said clocks (assess kind name None) first second said other a b =
-      one_on_file Same same (SaysWithCode o s.history (Some files) moments kind None) files name MOST_SIGNATURE_BYTES (λ signature x y p q h k. clocks kind signature None x y p q h k) first second said other a b
-  one_said clocks (assess kind name (Some code)) first second said other a b =
-      one_on_file Same same (SaysWithCode o s.history (Some files) moments kind (Some code)) files name MOST_SIGNATURE_BYTES
-      (λ signature x y p q h k. one_on_file Same same (λ bytes. SaysByClock o s.history moments kind signature (Some bytes)) files code MOST_CODE_BYTES (λ bytes. clocks kind signature (Some bytes)) p q x y h k) first second said other a b
+module _ (apart : OpenedIsNotUnopened) (files : List File) (moments : Option (List ℕ)) (facts : Option (List ℕ)) where
+  over_desk : (rows : Told) (kind : Kind) (name : List ℕ) (code : Option (List ℕ)) (status : Status) (said : List ℕ) → HasFiles files (assess kind name code) → IsSome rows → HasDesk files rows facts (assess kind name code)
+      → DeskSays (Some files) facts rows (λ o. SaysAssess o [] (Some files) moments kind name code) status said → IsWorked status
+  over_desk None kind name code status said has told desk says = absurd (nothing_told told)
+  over_desk (Some raw) kind name code status said has told desk (inl says) = absurd (apart files facts raw desk.0 status said desk.1 says)
+  over_desk (Some raw) kind name code status said has told desk (inr says) = assess_works says.0 files moments kind name code status said has says.2
+
+  worked : (rows : Told) (command : FileCommand) (status : Status) (said : List ℕ) → HasFiles files command → TellsRows rows command → HasDesk files rows facts command → FilesSay (Some files) moments rows facts command status said → IsWorked status
+  worked rows (compile name) status said has told desk says = works_there Compiles files name MOST_TEXT_BYTES status said (λ bytes h. taken_or_refused _ _ status said h) has says
+  worked rows (compile_set name) status said has told desk says = works_there CompilesSet files name MOST_TEXT_BYTES status said (λ bytes h. taken_or_refused _ _ status said h) has says
+  worked rows (dump name) status said has told desk says = works_there Dumps files name MOST_BYTES status said (λ bytes h. dump_works (begins_as_set bytes) bytes said status h) has says
+  worked rows (assess kind name code) status said has told desk says = over_desk rows kind name code status said has told desk says
+
+  -- a command whose files are there does its work, unless a device fails or memory runs out
+  pub work_is_done : (rows : Told) (command : FileCommand) (written sent : Option (List ℕ)) (ended : Status) → HasFiles files command → TellsRows rows command → HasDesk files rows facts command
+      → ended ≢ WriteFault → ended ≢ ShelfFault → ended ≢ ClockFault → ended ≢ KeeperFault
+      → Concludes (FilesSay (Some files) moments rows facts command) written sent ended → IsWorked ended ⊎ (ended ≡ OutOfMemory)
+  work_is_done rows command written sent Fine has told desk a b d f e = inl (worked rows command Fine e.text has told desk e.tells)
+  work_is_done rows command written sent Denied has told desk a b d f e = inl (worked rows command Denied e.text has told desk e.tells)
+  work_is_done rows command written sent Usage has told desk a b d f e = inl (worked rows command Usage e.text has told desk e.tells)
+  work_is_done rows command written sent ReadFault has told desk a b d f e = inl (worked rows command ReadFault e.text has told desk e.tells)
+  work_is_done rows command written sent WriteFault has told desk a b d f e = absurd (a refl)
+  work_is_done rows command written sent ShelfFault has told desk a b d f e = absurd (b refl)
+  work_is_done rows command written sent ClockFault has told desk a b d f e = absurd (d refl)
+  work_is_done rows command written sent KeeperFault has told desk a b d f e = absurd (f refl)
+  work_is_done rows command written sent FileMissing has told desk a b d f e = inl (worked rows command FileMissing e.text has told desk e.tells)
+  work_is_done rows command written sent FileTooLong has told desk a b d f e = inl (worked rows command FileTooLong e.text has told desk e.tells)
+  work_is_done rows command written sent BadFacts has told desk a b d f e = inl (worked rows command BadFacts e.text has told desk e.tells)
+  work_is_done rows command written sent BadStore has told desk a b d f e = inl (worked rows command BadStore e.text has told desk e.tells)
+  work_is_done rows command written sent Refused has told desk a b d f e = inl (worked rows command Refused e.text has told desk e.tells)
+  work_is_done rows command written sent SessionTooLong has told desk a b d f e = inl (worked rows command SessionTooLong e.text has told desk e.tells)
+  work_is_done rows command written sent OutOfMemory has told desk a b d f e = inr refl
 
 said_with : (Says : Status → List ℕ → Type 0) (written sent : Option (List ℕ)) (ended : Status) → IsUncut ended → Concludes Says written sent ended → (text : List ℕ) × Says ended text
 said_with Says written sent Fine uncut e = (e.text, e.tells)
@@ -142,7 +148,7 @@ said_with Says written sent ReadFault uncut e = (e.text, e.tells)
 said_with Says written sent WriteFault uncut e = absurd uncut
 said_with Says written sent ShelfFault uncut e = absurd uncut
 said_with Says written sent ClockFault uncut e = absurd uncut
-said_with Says written sent KeeperFault uncut e = (e.text, e.tells)
+said_with Says written sent KeeperFault uncut e = absurd uncut
 said_with Says written sent FileMissing uncut e = (e.text, e.tells)
 said_with Says written sent FileTooLong uncut e = (e.text, e.tells)
 said_with Says written sent BadFacts uncut e = (e.text, e.tells)
@@ -158,67 +164,14 @@ exactly Says written sent ended status one uncut e =
     let said = said_with Says written sent ended uncut e in
     (λ is. (said.0, subst (λ s. Says s said.0) is said.1), λ would. sym (one would.0 said.0 would.1 said.1))
 
--- the statuses that come at whatever time the clock tells
-abbrev pub IsTimeless : Status → Type 0
-IsTimeless FileMissing = Unit {0}
-IsTimeless FileTooLong = Unit {0}
-IsTimeless Refused = Unit {0}
-IsTimeless other = ⊥
+-- a file is missing or too long, the facts or the store are bad, or the work is refused, exactly where that would be said
+pub timeless_exactly : TimelessStatusIsOne → (files : List File) (moments : Option (List ℕ)) (rows : Told) (facts : Option (List ℕ)) (command : FileCommand) (written sent : Option (List ℕ)) (ended status : Status) → TellsRows rows command → IsTimeless status → IsUncut ended
+    → Concludes (FilesSay (Some files) moments rows facts command) written sent ended → ((ended ≡ status) ↔ WouldSay files moments rows facts command status)
+timeless_exactly one files moments rows facts command written sent ended status told timeless uncut e =
+    exactly (FilesSay (Some files) moments rows facts command) written sent ended status (λ said other a b. one files moments rows facts command status ended said other told timeless a b) uncut e
 
-abbrev TimelessSame : Status → Status → Type 0
-TimelessSame first second = IsTimeless first → first ≡ second
-
-refused_alone : (how : Assessed) → IsTimeless (status_of how) → status_of how ≡ Refused
-refused_alone assessed.Accepted timeless = absurd timeless
-refused_alone assessed.Rejected timeless = absurd timeless
-refused_alone assessed.Refused timeless = refl
-
-abbrev RefusedEver : Type 0
-RefusedEver =
-    (o : Opening) (h : List Event) (moments others : Option (List ℕ)) (kind : Kind) (signature : List ℕ) (code : Option (List ℕ)) (said other : List ℕ) (second : Status)
-    → SaysByClock o h moments kind signature code Refused said → SaysByClock o h others kind signature code second other → second ≡ Refused
-
-abbrev OneTold : Type 0
-OneTold =
-    (o : Opening) (h : List Event) (moments : List ℕ) (kind : Kind) (signature : List ℕ) (code : Option (List ℕ)) (said other : List ℕ) (first second : Status)
-    → SaysByClock o h (Some moments) kind signature code first said → SaysByClock o h (Some moments) kind signature code second other → first ≡ second
-
-timeless_by_clock : (ever : RefusedEver) (o : Opening) (h : List Event) (moments : Option (List ℕ)) (kind : Kind) (signature : List ℕ) (code : Option (List ℕ)) (said other : List ℕ) (first second : Status)
-    → SaysByClock o h moments kind signature code first said → SaysByClock o h moments kind signature code second other → TimelessSame first second
-timeless_by_clock ever o h moments kind signature code said other first second a b = λ timeless.
-    let refused = a.says.end_is ∙ refused_alone a.says.how (subst IsTimeless a.says.end_is timeless) in
-    refused ∙ sym (ever o h moments moments kind signature code said other second (subst (λ s. SaysByClock o h moments kind signature code s said) refused a) b)
-
-module _ (compiles : OneStatus Compiles) (sets : OneStatus CompilesSet) (dumps : OneStatus Dumps) (told : OneTold) (ever : RefusedEver) (o : Opening) (s : State) (files : List File) (command : FileCommand) (written sent : Option (List ℕ)) (ended : Status) where
-  -- a file is missing or too long, or the work is refused, exactly where something would be said with that status
-  pub timeless_exactly : (moments : Option (List ℕ)) (status : Status) → IsTimeless status → IsUncut ended → Concludes (FilesSay o s (Some files) moments command) written sent ended
-      → ((ended ≡ status) ↔ ((text : List ℕ) × FilesSay o s (Some files) moments command status text))
-  timeless_exactly moments status timeless uncut e =
-      exactly (FilesSay o s (Some files) moments command) written sent ended status
-      (λ said other a b. one_said compiles sets dumps TimelessSame (λ p q is _. is) o s files moments (λ kind signature code x y p q h k. timeless_by_clock ever o s.history moments kind signature code x y p q h k) command status ended said other a b timeless) uncut e
-
-  -- and so it is with every status, where the clock tells its moments
-  pub told_exactly : (moments : List ℕ) (status : Status) → IsUncut ended → Concludes (FilesSay o s (Some files) (Some moments) command) written sent ended
-      → ((ended ≡ status) ↔ ((text : List ℕ) × FilesSay o s (Some files) (Some moments) command status text))
-  told_exactly moments status uncut e =
-      exactly (FilesSay o s (Some files) (Some moments) command) written sent ended status
-      (λ said other a b. one_said compiles sets dumps (λ p q. p ≡ q) (λ p q is. is) o s files (Some moments) (λ kind signature code x y p q h k. told o s.history moments kind signature code x y p q h k) command status ended said other a b) uncut e
-
--- a command whose files are there does its work, unless a device fails or memory runs out
-pub work_is_done : (o : Opening) (s : State) (files : List File) (moments : Option (List ℕ)) (command : FileCommand) (written sent : Option (List ℕ)) (ended : Status) → HasFiles files command → ended ≢ WriteFault → ended ≢ ShelfFault → ended ≢ ClockFault
-    → Concludes (FilesSay o s (Some files) moments command) written sent ended → IsWorked ended ⊎ (ended ≡ OutOfMemory)
-work_is_done o s files moments command written sent Fine has a b d e = inl (worked o s files moments command Fine e.text has e.tells)
-work_is_done o s files moments command written sent Denied has a b d e = inl (worked o s files moments command Denied e.text has e.tells)
-work_is_done o s files moments command written sent Usage has a b d e = inl (worked o s files moments command Usage e.text has e.tells)
-work_is_done o s files moments command written sent ReadFault has a b d e = inl (worked o s files moments command ReadFault e.text has e.tells)
-work_is_done o s files moments command written sent WriteFault has a b d e = absurd (a refl)
-work_is_done o s files moments command written sent ShelfFault has a b d e = absurd (b refl)
-work_is_done o s files moments command written sent ClockFault has a b d e = absurd (d refl)
-work_is_done o s files moments command written sent KeeperFault has a b d e = inl (worked o s files moments command KeeperFault e.text has e.tells)
-work_is_done o s files moments command written sent FileMissing has a b d e = inl (worked o s files moments command FileMissing e.text has e.tells)
-work_is_done o s files moments command written sent FileTooLong has a b d e = inl (worked o s files moments command FileTooLong e.text has e.tells)
-work_is_done o s files moments command written sent BadFacts has a b d e = inl (worked o s files moments command BadFacts e.text has e.tells)
-work_is_done o s files moments command written sent BadStore has a b d e = inl (worked o s files moments command BadStore e.text has e.tells)
-work_is_done o s files moments command written sent Refused has a b d e = inl (worked o s files moments command Refused e.text has e.tells)
-work_is_done o s files moments command written sent SessionTooLong has a b d e = inl (worked o s files moments command SessionTooLong e.text has e.tells)
-work_is_done o s files moments command written sent OutOfMemory has a b d e = inr refl
+-- and so it is with every status, where the clock tells its moments
+pub told_exactly : FilesHaveOneStatus → (files : List File) (moments : List ℕ) (rows : Told) (facts : Option (List ℕ)) (command : FileCommand) (written sent : Option (List ℕ)) (ended status : Status) → TellsRows rows command → IsUncut ended
+    → Concludes (FilesSay (Some files) (Some moments) rows facts command) written sent ended → ((ended ≡ status) ↔ WouldSay files (Some moments) rows facts command status)
+told_exactly one files moments rows facts command written sent ended status told uncut e =
+    exactly (FilesSay (Some files) (Some moments) rows facts command) written sent ended status (λ said other a b. one files moments rows facts command status ended said other told a b) uncut e

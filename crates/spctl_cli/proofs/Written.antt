@@ -1,5 +1,5 @@
 -- Told bytes, call after call.
-use Rattle.std.proofs.Common.{ℕ, List, Option, None, Some, Result, Ok, Err, length, sym, ◌∙◌, subst, arith}
+use Rattle.std.proofs.Common.{◌≡◌, ℕ, List, Option, None, Some, Result, Ok, Err, length, sym, ◌∙◌, subst, arith}
 use Rattle.std.proofs.Math.Seq.{take-length}
 use Rattle.std.specs.Io.KnownBytes.{Keeps, Appends}
 use Rattle.gk_io.specs.Told.{PutAppends}

@@ -1,31 +1,26 @@
--- When a command on files has something to say. This project's own.
-use Rattle.std.specs.Prelude.{ℕ, List, Option, Some, None}
+-- When a command has something to say. This project's own.
+use Rattle.std.specs.Prelude.{ℕ, ◌⊎◌, List, Option, Some, None, IsSome, ⊤}
 use Rattle.gk_io.specs.Shelf.{File}
 use Rattle.policy_model.specs.History.{Opening}
-use Rattle.session_model.specs.Slots.{State}
+use Rattle.policy_keeper.specs.Told.{Told}
 use Rattle.req_grammar.specs.declared.limits.TheConstants.{MOST_TEXT_BYTES}
 use Rattle.req_blob.specs.declared.limits.TheConstants.{MOST_BYTES}
 use Rattle.file_assessment.specs.declared.limits.TheConstants.{MOST_SIGNATURE_BYTES, MOST_CODE_BYTES}
 use Rattle.run_status.specs.declared.status.Status.{Status}
-use Rattle.run_status.specs.declared.status.Status.TheVariants.{Fine, Denied, Usage, ReadFault, WriteFault, ShelfFault, ClockFault, Refused, SessionTooLong, OutOfMemory}
+use Rattle.run_status.specs.declared.status.Status.TheVariants.{Fine, Denied, Usage, ReadFault, WriteFault, ShelfFault, ClockFault, KeeperFault, Refused, SessionTooLong, OutOfMemory}
 use Rattle.run_status.specs.Files.{IsFile}
-use Rattle.spctl_cli.specs.Commands.{FileCommand, compile, compile_set, dump, assess, Command, session, on_files}
-use Rattle.spctl_cli.specs.CommandSays.{FilesSay}
+use Rattle.desk_opening.specs.Opens.{IsOpening}
+use Rattle.command_words.specs.Table.{FileCommand, compile, compile_set, dump, assess}
+use Rattle.run_commands.specs.Says.{FilesSay}
 
--- neither the sink, the shelf nor the clock failed, and memory didn't run out
+-- neither the sink, the shelf, the clock nor the keeper failed, and memory didn't run out
 abbrev pub IsUncut : Status → Type 0
 IsUncut WriteFault = ⊥
 IsUncut ShelfFault = ⊥
 IsUncut ClockFault = ⊥
+IsUncut KeeperFault = ⊥
 IsUncut OutOfMemory = ⊥
 IsUncut other = Unit {0}
-
--- a command on files neither reads an input nor is told the usage
-abbrev pub IsFilesEnd : Status → Type 0
-IsFilesEnd Usage = ⊥
-IsFilesEnd ReadFault = ⊥
-IsFilesEnd SessionTooLong = ⊥
-IsFilesEnd other = Unit {0}
 
 -- a command had its files, and did its work on them
 abbrev pub IsWorked : Status → Type 0
@@ -34,11 +29,9 @@ IsWorked Denied = Unit {0}
 IsWorked Refused = Unit {0}
 IsWorked other = ⊥
 
--- over these files, and these moments of the clock where it tells them, the words ask for a command that says something with this status
-abbrev pub WouldSay : Opening → State → List File → Option (List ℕ) → Option Command → Status → Type 0
-WouldSay o s files moments (Some (on_files command)) status = (text : List ℕ) × FilesSay o s (Some files) moments command status text
-WouldSay o s files moments (Some session) status = ⊥
-WouldSay o s files moments None status = ⊥
+-- over these files, rows and moments, where the clock tells them, a command on files says something with this status
+abbrev pub WouldSay : List File → Option (List ℕ) → Told → Option (List ℕ) → FileCommand → Status → Type 0
+WouldSay files moments rows facts command status = (text : List ℕ) × FilesSay (Some files) moments rows facts command status text
 
 -- a file of that name is there, and within the limit
 abbrev pub HasFile : List File → List ℕ → ℕ → Type 0
@@ -51,3 +44,10 @@ HasFiles files (compile_set name) = HasFile files name MOST_TEXT_BYTES
 HasFiles files (dump name) = HasFile files name MOST_BYTES
 HasFiles files (assess kind name None) = HasFile files name MOST_SIGNATURE_BYTES
 HasFiles files (assess kind name (Some code)) = HasFile files name MOST_SIGNATURE_BYTES × HasFile files code MOST_CODE_BYTES
+
+-- and a desk begins somewhere, where the command asks for one
+abbrev pub HasDesk : List File → Told → Option (List ℕ) → FileCommand → Type 0
+HasDesk files rows facts (compile name) = ⊤
+HasDesk files rows facts (compile_set name) = ⊤
+HasDesk files rows facts (dump name) = ⊤
+HasDesk files rows facts (assess kind name code) = (o : Opening) × IsOpening (Some files) facts rows o

@@ -1,43 +1,63 @@
 -- What a run has read and written when it ends. This project's own.
-use Rattle.std.specs.Prelude.{◌≡◌, ℕ, ◌⊎◌, List, [], ◌++◌, Option, Some, None}
+use Rattle.std.specs.Prelude.{◌≡◌, ◌≢◌, ℕ, ◌⊎◌, List, [], ◌++◌, Option, Some, None}
 use Rattle.std.specs.Io.KnownBytes.{Appends}
-use Rattle.gk_io.specs.Told.{AppendsFront}
-use Rattle.policy_model.specs.History.{Opening}
-use Rattle.session_model.specs.Slots.{State}
 use Rattle.gk_io.specs.Shelf.{File}
-use Rattle.spctl_cli.specs.Commands.{FileCommand, Command, session, on_files}
-use Rattle.spctl_cli.specs.CommandSays.{FilesSay}
-use Rattle.spctl_cli.specs.Conclusions.{Concludes}
+use Rattle.gk_io.specs.Told.{AppendsFront}
+use Rattle.policy_model.specs.History.{Opening, tables_of}
+use Rattle.policy_keeper.specs.Told.{Told}
+use Rattle.policy_keeper.specs.Mirror.{Mirrors}
+use Rattle.desk_lines.specs.Failures.{Shows}
+use Rattle.session_model.specs.Slots.{State}
+use Rattle.session_model.specs.Session.{begun, Session}
 use Rattle.line_reader.specs.Lines.{with_lf}
 use Rattle.line_reader.specs.Limits.{RunsPast}
 use Rattle.line_session.specs.Ends.{StopsBefore, BreaksOff, AtReadFault, AtLimit, AtWant}
 use Rattle.run_status.specs.declared.status.Status.{Status}
-use Rattle.run_status.specs.declared.status.Status.TheVariants.{Fine, Usage, ReadFault, WriteFault, SessionTooLong, OutOfMemory}
-use Rattle.spctl_cli.specs.Headline.{IsSession, Answers}
+use Rattle.run_status.specs.declared.status.Status.TheVariants.{Fine, Usage, ReadFault, WriteFault, ClockFault, SessionTooLong, OutOfMemory}
+use Rattle.desk_opening.specs.Opens.{IsOpening, SaysUnopened}
+use Rattle.command_words.specs.Table.{Command, session, on_files, on_tables, rehearse}
+use Rattle.command_words.specs.Lines.{CommandLine}
+use Rattle.run_commands.specs.Says.{FilesSay, TablesSay}
+use Rattle.rehearse_command.specs.Rehearsing.{SaysRehearsal}
+use Rattle.spctl_cli.specs.Conclusions.{Concludes}
+use Rattle.spctl_cli.specs.Headline.{Kept, IsSession}
 use Rattle.spctl_cli.specs.LastLines.{read_fault_text, too_long_text, usage_text}
 
+-- a run that says one text neither reads an input nor is told the usage
+abbrev pub IsSpokenEnd : Status → Type 0
+IsSpokenEnd Usage = ⊥
+IsSpokenEnd ReadFault = ⊥
+IsSpokenEnd SessionTooLong = ⊥
+IsSpokenEnd other = Unit {0}
+
+-- the lines get the replies, whatever state they lead to; the keeper has the tables of that, and at most as many edits failed as its count
+-- shows
+abbrev pub AnswersKept : Kept → Opening → State → List (List ℕ) → List (List ℕ) → Type 0
+AnswersKept kept o s lines replies =
+    (after : State) × Session o s lines replies after × Mirrors kept.told (tables_of o after.history) × Shows s.history after.history kept.before kept.counted
+
 -- the session stopped for this reason with its replies written, and behind them stands this line
-pub record TellsFault (Why : List (List ℕ) → List ℕ → Type 0) (text : List ℕ) (o : Opening) (s : State) (left now written sent : Option (List ℕ)) : Type 0 where
+pub record TellsFault (Why : List (List ℕ) → List ℕ → Type 0) (text : List ℕ) (kept : Kept) (o : Opening) (s : State) (left now written sent : Option (List ℕ)) : Type 0 where
   pub replied : Option (List ℕ)
-  pub stops : StopsBefore Why (Answers o s) left now written replied
+  pub stops : StopsBefore Why (AnswersKept kept o s) left now written replied
   pub told : Appends replied sent (with_lf text)
 
 -- the same, but the sink failed at this line, of which a front was written
-pub record BreaksAtFault (Why : List (List ℕ) → List ℕ → Type 0) (text : List ℕ) (o : Opening) (s : State) (left now written sent : Option (List ℕ)) : Type 0 where
+pub record BreaksAtFault (Why : List (List ℕ) → List ℕ → Type 0) (text : List ℕ) (kept : Kept) (o : Opening) (s : State) (left now written sent : Option (List ℕ)) : Type 0 where
   pub replied : Option (List ℕ)
-  pub stops : StopsBefore Why (Answers o s) left now written replied
+  pub stops : StopsBefore Why (AnswersKept kept o s) left now written replied
   pub told : AppendsFront replied sent (with_lf text)
 
--- how a session ends from the opening o and the state s on, by the status of its run
-abbrev pub SessionEnds : Opening → State → Option (List ℕ) → Option (List ℕ) → Option (List ℕ) → Option (List ℕ) → Status → Type 0
-SessionEnds o s left now written sent Fine = (after : State) × IsSession o s after left now written sent
-SessionEnds o s left now written sent ReadFault = TellsFault AtReadFault read_fault_text o s left now written sent
-SessionEnds o s left now written sent WriteFault =
-    BreaksOff (Answers o s) left now written sent
-    ⊎ (BreaksAtFault AtReadFault read_fault_text o s left now written sent ⊎ BreaksAtFault AtLimit too_long_text o s left now written sent)
-SessionEnds o s left now written sent SessionTooLong = TellsFault AtLimit too_long_text o s left now written sent
-SessionEnds o s left now written sent OutOfMemory = StopsBefore AtWant (Answers o s) left now written sent
-SessionEnds o s left now written sent other = ⊥
+-- how a session ends from the opening o and the state s on, by the status of its run; kept is what the keeper then tells
+abbrev pub SessionEnds : Kept → Opening → State → Option (List ℕ) → Option (List ℕ) → Option (List ℕ) → Option (List ℕ) → Status → Type 0
+SessionEnds kept o s left now written sent Fine = (after : State) × IsSession kept o s after left now written sent
+SessionEnds kept o s left now written sent ReadFault = TellsFault AtReadFault read_fault_text kept o s left now written sent
+SessionEnds kept o s left now written sent WriteFault =
+    BreaksOff (AnswersKept kept o s) left now written sent
+    ⊎ (BreaksAtFault AtReadFault read_fault_text kept o s left now written sent ⊎ BreaksAtFault AtLimit too_long_text kept o s left now written sent)
+SessionEnds kept o s left now written sent SessionTooLong = TellsFault AtLimit too_long_text kept o s left now written sent
+SessionEnds kept o s left now written sent OutOfMemory = StopsBefore AtWant (AnswersKept kept o s) left now written sent
+SessionEnds kept o s left now written sent other = ⊥
 
 -- nothing was read, and the sink gained just the text
 pub record Tells (text : List ℕ) (left now written sent : Option (List ℕ)) : Type 0 where
@@ -56,17 +76,43 @@ UsageEnds left now written sent WriteFault = TellsFront (with_lf usage_text) lef
 UsageEnds left now written sent OutOfMemory = Tells [] left now written sent
 UsageEnds left now written sent other = ⊥
 
--- how a run ends whose command is on files: nothing was read, and what the command says was written
-pub record FilesEnd (o : Opening) (s : State) (files : Option (List File)) (moments : Option (List ℕ)) (command : FileCommand) (left now written sent : Option (List ℕ)) (status : Status) : Type 0 where
+-- how a run ends whose command says one text: nothing was read, and what is said was written
+pub record SpokenEnd (Says : Status → List ℕ → Type 0) (left now written sent : Option (List ℕ)) (status : Status) : Type 0 where
   pub unread : now ≡ left
-  pub concludes : Concludes (FilesSay o s files moments command) written sent status
+  pub end : IsSpokenEnd status
+  pub concludes : Concludes Says written sent status
 
--- how a run ends, by its command and its status; o and s are where its desk begins, and the shelf and the clock, where they tell, have
--- these files and these moments to come
-abbrev pub RunEnds : Opening → State → Option (List File) → Option (List ℕ) → Option Command → Option (List ℕ) → Option (List ℕ) → Option (List ℕ) → Option (List ℕ) → Status → Type 0
-RunEnds o s files moments None left now written sent status = UsageEnds left now written sent status
-RunEnds o s files moments (Some session) left now written sent status = SessionEnds o s left now written sent status
-RunEnds o s files moments (Some (on_files command)) left now written sent status = FilesEnd o s files moments command left now written sent status
+-- how a session ends over a desk that is opened where its run begins
+pub record OpenedEnd (files : Option (List File)) (rows : Told) (kept : Kept) (facts : Option (List ℕ)) (left now written sent : Option (List ℕ)) (status : Status) : Type 0 where
+  pub opening : Opening
+  pub is_opening : IsOpening files facts rows opening
+  pub ends : SessionEnds kept opening begun left now written sent status
+
+-- how a session ends that has no desk: what is wrong with the facts or the store is said; the clock isn't asked
+pub record UnopenedEnd (files : Option (List File)) (rows : Told) (facts : Option (List ℕ)) (left now written sent : Option (List ℕ)) (status : Status) : Type 0 where
+  pub spoken : SpokenEnd (SaysUnopened files facts rows) left now written sent status
+  pub unasked : status ≢ ClockFault
+
+-- how a session ends, over its desk or where it has none
+abbrev pub SessionRun : Option (List File) → Told → Kept → Option (List ℕ) → Option (List ℕ) → Option (List ℕ) → Option (List ℕ) → Option (List ℕ) → Status → Type 0
+SessionRun files rows kept facts left now written sent status =
+    OpenedEnd files rows kept facts left now written sent status ⊎ UnopenedEnd files rows facts left now written sent status
+
+-- how a run ends, by its command, its facts file and its status. The shelf has these files and the clock these moments to come, where they
+-- tell; rows are those that the keeper told as the run began, where it told them throughout, and kept what it tells as it ends
+abbrev pub CommandEnds : Option (List File) → Option (List ℕ) → Told → Kept → Option (List ℕ) → Command → Option (List ℕ) → Option (List ℕ) → Option (List ℕ) → Option (List ℕ) → Status → Type 0
+CommandEnds files moments rows kept facts session left now written sent status = SessionRun files rows kept facts left now written sent status
+CommandEnds files moments rows kept facts (on_files command) left now written sent status =
+    SpokenEnd (FilesSay files moments rows facts command) left now written sent status
+CommandEnds files moments rows kept facts (on_tables command) left now written sent status =
+    SpokenEnd (TablesSay files rows kept.told command) left now written sent status
+CommandEnds files moments rows kept facts (rehearse steps) left now written sent status =
+    SpokenEnd (SaysRehearsal steps) left now written sent status
+
+-- and by its words, which may be no command
+abbrev pub RunEnds : Option (List File) → Option (List ℕ) → Told → Kept → Option CommandLine → Option (List ℕ) → Option (List ℕ) → Option (List ℕ) → Option (List ℕ) → Status → Type 0
+RunEnds files moments rows kept None left now written sent status = UsageEnds left now written sent status
+RunEnds files moments rows kept (Some line) left now written sent status = CommandEnds files moments rows kept line.facts line.command left now written sent status
 
 -- the source, which tells its bytes, gave one past the limits of a session
 abbrev pub GavePast : Option (List ℕ) → Option (List ℕ) → Type 0

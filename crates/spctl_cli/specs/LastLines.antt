@@ -25,6 +25,10 @@ shelf_fault_text = codes "fault ShelfFault"
 abbrev pub clock_fault_text : List ℕ
 clock_fault_text = codes "fault ClockFault"
 
+-- the keeper failed as its tables were loaded
+abbrev pub keeper_fault_text : List ℕ
+keeper_fault_text = codes "fault KeeperFault"
+
 -- the run ended with this status once the sink gained this text; or the sink failed at it, and gained a front of it
 abbrev pub IsEndedBy : Status → List ℕ → Option (List ℕ) → Option (List ℕ) → Status → Type 0
 IsEndedBy status text old new ended = ((ended ≡ status) × Appends old new text) ⊎ ((ended ≡ WriteFault) × AppendsFront old new text)

@@ -1,12 +1,12 @@
 //! The top call: all that the program does.
 #![tactic(auto)]
 
-mod command;
 mod conclusion;
 mod last_line;
-mod no_store;
-mod on_files;
+mod obeying;
 mod program;
+mod session;
+mod speaking;
 
 pub use program::run;
 pub use run_status::Status;

@@ -5,48 +5,46 @@ ghost use Rattle.gk_io.specs.Faults.{CanRise, Rose};
 ghost use Rattle.gk_io.specs.Shelf.{File, KeepsFiles};
 ghost use Rattle.gk_io.specs.Told.{IsFlushed};
 ghost use Rattle.line_reader.specs.Limits.{IsWithin};
-ghost use Rattle.req_tree.specs.Facts.{no_facts};
-ghost use Rattle.policy_model.specs.History.{fresh};
+ghost use Rattle.policy_model.specs.History.{Opening};
 ghost use Rattle.session_model.specs.Slots.{State};
 ghost use Rattle.session_model.specs.Session.{begun};
-ghost use Rattle.spctl_cli.specs.Commands as model;
-ghost use Rattle.spctl_cli.specs.CommandLine.{texts, file_command_view};
-ghost use Rattle.spctl_cli.specs.CommandSays.{FilesSay};
-ghost use Rattle.spctl_cli.specs.Causes.{HasFiles, IsFilesEnd, IsUncut, IsWorked, WouldSay};
-ghost use Rattle.spctl_cli.specs.Conclusions.{Concludes};
-ghost use Rattle.spctl_cli.specs.Headline.{IsSession};
-ghost use Rattle.spctl_cli.specs.Ends.{RunEnds, SessionEnds, UsageEnds, GavePast};
+ghost use Rattle.desk_opening.specs.Opens.{IsOpening};
+ghost use Rattle.command_words.specs.Table as model;
+ghost use Rattle.command_words.specs.Views.{texts};
+ghost use Rattle.run_commands.specs.Laws.{TellsRows};
+ghost use Rattle.run_commands.specs.Says.{told_through};
+ghost use Rattle.spctl_cli.specs.Causes.{HasDesk, HasFiles, IsUncut, IsWorked, WouldSay};
+ghost use Rattle.spctl_cli.specs.Headline.{IsSession, kept_by};
+ghost use Rattle.spctl_cli.specs.Ends.{RunEnds, GavePast};
+ghost use Rattle.spctl_cli.specs.Words.{asked, line_on};
 
-use crate::command::{Command, FileCommand, command_of};
-use crate::conclusion::conclude;
-use crate::last_line::end_with;
-use crate::no_store::NoStore;
-use crate::on_files::said_of_files;
-use desk_lines::session_lines;
-use desk_state::Desk;
-use file_assessment::laws::an_assessment_has_one_status;
+use crate::obeying::obey;
+use desk_opening::laws::a_run_begins_or_not;
 use gk_io::{Clock, Shelf, Sink, Source};
-use language_commands::laws::each_work_has_one_status;
-use line_session::Ended;
+use policy_keeper::Keeper;
+use run_commands::laws::each_command_has_one_status;
 use run_status::Status;
 use std::alloc::Global;
 
 /// Does what the words of the command line say, of which the program's name is none.
-pub fn run<S: Source, W: Sink, H: Shelf, C: Clock>(
+pub fn run<S: Source, W: Sink, H: Shelf, K: Keeper, C: Clock>(
     alloc: Global,
     words: &[&str],
     input: &mut S,
     output: &mut W,
     shelf: &mut H,
+    keeper: &mut K,
     clock: &mut C,
 ) -> Status
-    // The headline: a session that ends well wrote just the replies to the lines it read.
-    ensures fine { model.command_of (texts words.now) ≡ Some model.session → result ≡ Status.Fine
-        → (after : State) × IsSession (fresh no_facts) begun after (S.left input.old) (S.left input.new)
+    // The headline: a session that ends well wrote just the replies to the lines it read, by a desk that began with the
+    // facts of the run and the tables of the keeper, and the keeper has the tables that the session leads to.
+    ensures fine { (store : List ℕ) (facts : Option (List ℕ)) → asked (texts words.now) ≡ Some (line_on store facts model.session) → result ≡ Status.Fine
+        → (o : Opening) × IsOpening (H.files shelf.old) facts (told_through (K.told keeper.old) (K.told keeper.new)) o
+        × (after : State) × IsSession (kept_by (K.told keeper.new) (K.faults keeper.old) (K.faults keeper.new)) o begun after (S.left input.old) (S.left input.new)
         (W.written output.old) (W.written output.new) }
 
     // What was read, answered and written, by the command and the end.
-    ensures ends { RunEnds (fresh no_facts) begun (H.files shelf.old) (C.moments clock.old) (model.command_of (texts words.now))
+    ensures ends { RunEnds (H.files shelf.old) (C.moments clock.old) (told_through (K.told keeper.old) (K.told keeper.new)) (kept_by (K.told keeper.new) (K.faults keeper.old) (K.faults keeper.new)) (asked (texts words.now))
         (S.left input.old) (S.left input.new) (W.written output.old) (W.written output.new) result }
 
     ensures flushed { result ≢ Status.WriteFault → IsFlushed (W.flushed output.old) (W.written output.old)
@@ -54,9 +52,10 @@ pub fn run<S: Source, W: Sink, H: Shelf, C: Clock>(
 
     // The cause of each end. A fault is that of its device, in this call. Running out of memory needs no
     // cause; what comes exactly where something holds yields to it and to a fault of the sink, and a fault
-    // that the count shows yields to a fault of the sink alone.
+    // that the count shows yields to a fault of the sink alone. A keeper's count also shows the edits that it
+    // didn't keep, whose replies say so.
     ensures usage_cause { result ≢ Status.WriteFault → result ≢ Status.OutOfMemory
-        → ((result ≡ Status.Usage) ↔ (model.command_of (texts words.now) ≡ None)) }
+        → ((result ≡ Status.Usage) ↔ (asked (texts words.now) ≡ None)) }
     ensures read_cause { result ≡ Status.ReadFault → Rose (S.faults input.old) (S.faults input.new) }
     ensures write_cause { result ≡ Status.WriteFault → Rose (W.faults output.old) (W.faults output.new) }
     ensures read_exact { CanRise (S.faults input.old) → result ≢ Status.WriteFault
@@ -69,36 +68,59 @@ pub fn run<S: Source, W: Sink, H: Shelf, C: Clock>(
 
     ensures shelf_cause { result ≡ Status.ShelfFault → Rose (H.faults shelf.old) (H.faults shelf.new) }
     ensures clock_cause { result ≡ Status.ClockFault → Rose (C.faults clock.old) (C.faults clock.new) }
+    ensures keeper_cause { result ≡ Status.KeeperFault → Rose (K.faults keeper.old) (K.faults keeper.new) }
     ensures shelf_exact { CanRise (H.faults shelf.old) → result ≢ Status.WriteFault
         → ((result ≡ Status.ShelfFault) ↔ Rose (H.faults shelf.old) (H.faults shelf.new)) }
     ensures clock_exact { CanRise (C.faults clock.old) → result ≢ Status.WriteFault
         → ((result ≡ Status.ClockFault) ↔ Rose (C.faults clock.old) (C.faults clock.new)) }
 
-    // What a command on files says comes exactly where it would be said over the files that the shelf tells,
-    // unless a device fails or memory runs out.
-    ensures missing_cause { (files : List File) → H.files shelf.old ≡ Some files → IsUncut result
-        → ((result ≡ Status.FileMissing) ↔ WouldSay (fresh no_facts) begun files (C.moments clock.old) (model.command_of (texts words.now)) Status.FileMissing) }
-    ensures file_too_long_cause { (files : List File) → H.files shelf.old ≡ Some files → IsUncut result
-        → ((result ≡ Status.FileTooLong) ↔ WouldSay (fresh no_facts) begun files (C.moments clock.old) (model.command_of (texts words.now)) Status.FileTooLong) }
-    ensures refused_cause { (files : List File) → H.files shelf.old ≡ Some files → IsUncut result
-        → ((result ≡ Status.Refused) ↔ WouldSay (fresh no_facts) begun files (C.moments clock.old) (model.command_of (texts words.now)) Status.Refused) }
+    // What a command on files says comes exactly where it would be said over the files that the shelf tells, and over the
+    // keeper's rows where it asks for them, unless a device fails or memory runs out.
+    ensures missing_cause { (files : List File) (store : List ℕ) (facts : Option (List ℕ)) (command : model.FileCommand)
+        → H.files shelf.old ≡ Some files → asked (texts words.now) ≡ Some (line_on store facts (model.on_files command))
+        → TellsRows (told_through (K.told keeper.old) (K.told keeper.new)) command → IsUncut result
+        → ((result ≡ Status.FileMissing) ↔ WouldSay files (C.moments clock.old) (told_through (K.told keeper.old) (K.told keeper.new)) facts command Status.FileMissing) }
+    ensures file_too_long_cause { (files : List File) (store : List ℕ) (facts : Option (List ℕ)) (command : model.FileCommand)
+        → H.files shelf.old ≡ Some files → asked (texts words.now) ≡ Some (line_on store facts (model.on_files command))
+        → TellsRows (told_through (K.told keeper.old) (K.told keeper.new)) command → IsUncut result
+        → ((result ≡ Status.FileTooLong) ↔ WouldSay files (C.moments clock.old) (told_through (K.told keeper.old) (K.told keeper.new)) facts command Status.FileTooLong) }
+    ensures bad_facts_cause { (files : List File) (store : List ℕ) (facts : Option (List ℕ)) (command : model.FileCommand)
+        → H.files shelf.old ≡ Some files → asked (texts words.now) ≡ Some (line_on store facts (model.on_files command))
+        → TellsRows (told_through (K.told keeper.old) (K.told keeper.new)) command → IsUncut result
+        → ((result ≡ Status.BadFacts) ↔ WouldSay files (C.moments clock.old) (told_through (K.told keeper.old) (K.told keeper.new)) facts command Status.BadFacts) }
+    ensures bad_store_cause { (files : List File) (store : List ℕ) (facts : Option (List ℕ)) (command : model.FileCommand)
+        → H.files shelf.old ≡ Some files → asked (texts words.now) ≡ Some (line_on store facts (model.on_files command))
+        → TellsRows (told_through (K.told keeper.old) (K.told keeper.new)) command → IsUncut result
+        → ((result ≡ Status.BadStore) ↔ WouldSay files (C.moments clock.old) (told_through (K.told keeper.old) (K.told keeper.new)) facts command Status.BadStore) }
+    ensures refused_cause { (files : List File) (store : List ℕ) (facts : Option (List ℕ)) (command : model.FileCommand)
+        → H.files shelf.old ≡ Some files → asked (texts words.now) ≡ Some (line_on store facts (model.on_files command))
+        → TellsRows (told_through (K.told keeper.old) (K.told keeper.new)) command → IsUncut result
+        → ((result ≡ Status.Refused) ↔ WouldSay files (C.moments clock.old) (told_through (K.told keeper.old) (K.told keeper.new)) facts command Status.Refused) }
+    ensures denied_cause { (files : List File) (moments : List ℕ) (store : List ℕ) (facts : Option (List ℕ)) (command : model.FileCommand)
+        → H.files shelf.old ≡ Some files → C.moments clock.old ≡ Some moments → asked (texts words.now) ≡ Some (line_on store facts (model.on_files command))
+        → TellsRows (told_through (K.told keeper.old) (K.told keeper.new)) command → IsUncut result
+        → ((result ≡ Status.Denied) ↔ WouldSay files (Some moments) (told_through (K.told keeper.old) (K.told keeper.new)) facts command Status.Denied) }
 
-    ensures denied_cause { (files : List File) (moments : List ℕ)
-        → H.files shelf.old ≡ Some files → C.moments clock.old ≡ Some moments → IsUncut result
-        → ((result ≡ Status.Denied) ↔ WouldSay (fresh no_facts) begun files (Some moments) (model.command_of (texts words.now)) Status.Denied) }
-
-    // A session within its limits, over devices that don't fail, ends well or out of memory.
-    ensures complete { (bytes : List ℕ) → model.command_of (texts words.now) ≡ Some model.session
+    // A session within its limits whose desk begins somewhere, over devices that don't fail, ends well or out of memory.
+    ensures complete { (files : List File) (bytes : List ℕ) (store : List ℕ) (facts : Option (List ℕ)) (o : Opening)
+        → asked (texts words.now) ≡ Some (line_on store facts model.session)
+        → H.files shelf.old ≡ Some files → IsSome (told_through (K.told keeper.old) (K.told keeper.new))
+        → IsOpening (Some files) facts (told_through (K.told keeper.old) (K.told keeper.new)) o
         → S.left input.old ≡ Some bytes → IsWithin bytes
         → ¬ Rose (S.faults input.old) (S.faults input.new)
         → ¬ Rose (W.faults output.old) (W.faults output.new)
+        → ¬ Rose (H.faults shelf.old) (H.faults shelf.new)
+        → ¬ Rose (K.faults keeper.old) (K.faults keeper.new)
         → (result ≡ Status.Fine) ⊎ (result ≡ Status.OutOfMemory) }
 
     // A command whose files are there, over devices that don't fail, does its work or is out of memory.
-    ensures complete_on_files { (files : List File) (command : model.FileCommand)
-        → model.command_of (texts words.now) ≡ Some (model.on_files command)
+    ensures complete_on_files { (files : List File) (store : List ℕ) (facts : Option (List ℕ)) (command : model.FileCommand)
+        → asked (texts words.now) ≡ Some (line_on store facts (model.on_files command))
         → H.files shelf.old ≡ Some files → HasFiles files command
+        → TellsRows (told_through (K.told keeper.old) (K.told keeper.new)) command
+        → HasDesk files (told_through (K.told keeper.old) (K.told keeper.new)) facts command
         → ¬ Rose (H.faults shelf.old) (H.faults shelf.new)
+        → ¬ Rose (K.faults keeper.old) (K.faults keeper.new)
         → ¬ Rose (C.faults clock.old) (C.faults clock.new)
         → ¬ Rose (W.faults output.old) (W.faults output.new)
         → IsWorked result ⊎ (result ≡ Status.OutOfMemory) }
@@ -111,99 +133,11 @@ pub fn run<S: Source, W: Sink, H: Shelf, C: Clock>(
     ensures output_later { W.faults output.old ≤ W.faults output.new }
     ensures shelf_kept { KeepsFiles (H.files shelf.old) (H.files shelf.new) }
     ensures shelf_later { H.faults shelf.old ≤ H.faults shelf.new }
+    ensures keeper_later { K.faults keeper.old ≤ K.faults keeper.new }
     ensures clock_telling { is_some (C.moments clock.new) ≡ is_some (C.moments clock.old) }
     ensures clock_later { C.faults clock.old ≤ C.faults clock.new }
 {
-    each_work_has_one_status();
-    an_assessment_has_one_status();
-    match command_of(words) {
-        Some(Command::Session) => session(alloc, input, output),
-        Some(Command::OnFiles(command)) => on_files(alloc, command, output, shelf, clock),
-        None => usage(output),
-    }
-}
-
-/// Answers the lines of the input by a fresh desk.
-fn session<S: Source, W: Sink>(alloc: Global, input: &mut S, output: &mut W) -> Status
-    ensures ends { SessionEnds (fresh no_facts) begun (S.left input.old) (S.left input.new)
-        (W.written output.old) (W.written output.new) result }
-    ensures within { (bytes : List ℕ) → S.left input.old ≡ Some bytes → IsWithin bytes
-        → result ≢ Status.SessionTooLong }
-    ensures flushed { result ≢ Status.WriteFault → IsFlushed (W.flushed output.old) (W.written output.old)
-        → IsFlushed (W.flushed output.new) (W.written output.new) }
-    ensures read_cause { result ≡ Status.ReadFault → Rose (S.faults input.old) (S.faults input.new) }
-    ensures write_cause { result ≡ Status.WriteFault → Rose (W.faults output.old) (W.faults output.new) }
-    ensures read_steady { result ≢ Status.ReadFault → result ≢ Status.WriteFault
-        → S.faults input.new ≡ S.faults input.old }
-    ensures write_steady { result ≢ Status.WriteFault → W.faults output.new ≡ W.faults output.old }
-    ensures input_telling { is_some (S.left input.new) ≡ is_some (S.left input.old) }
-    ensures output_telling { is_some (W.written output.new) ≡ is_some (W.written output.old) }
-    ensures flushed_telling { is_some (W.flushed output.new) ≡ is_some (W.flushed output.old) }
-    ensures input_later { S.faults input.old ≤ S.faults input.new }
-    ensures output_later { W.faults output.old ≤ W.faults output.new }
-{
-    let Ok(mut desk) = Desk::without_facts(alloc) else {
-        return Status::OutOfMemory;
-    };
-    let mut store = NoStore;
-    let ended = session_lines(alloc, &mut desk, &mut store, input, output);
-    drop(desk);
-    match ended {
-        Ended::Fine => Status::Fine,
-        Ended::WriteFault => Status::WriteFault,
-        Ended::OutOfMemory => Status::OutOfMemory,
-        Ended::ReadFault => end_with(output, b"fault ReadFault\n", Status::ReadFault),
-        Ended::TooLong => end_with(output, b"fault SessionTooLong\n", Status::SessionTooLong),
-    }
-}
-
-/// Writes what a command on files says.
-fn on_files<W: Sink, H: Shelf, C: Clock>(
-    alloc: Global,
-    command: FileCommand<'_>,
-    output: &mut W,
-    shelf: &mut H,
-    clock: &mut C,
-) -> Status
-    ensures ends { Concludes (FilesSay (fresh no_facts) begun (H.files shelf.old) (C.moments clock.old) (file_command_view command.entry))
-        (W.written output.old) (W.written output.new) result }
-    ensures end { IsFilesEnd result }
-    ensures flushed { result ≢ Status.WriteFault → IsFlushed (W.flushed output.old) (W.written output.old)
-        → IsFlushed (W.flushed output.new) (W.written output.new) }
-    ensures telling { is_some (W.written output.new) ≡ is_some (W.written output.old) }
-    ensures flushed_telling { is_some (W.flushed output.new) ≡ is_some (W.flushed output.old) }
-    ensures write_cause { result ≡ Status.WriteFault → Rose (W.faults output.old) (W.faults output.new) }
-    ensures write_steady { result ≢ Status.WriteFault → W.faults output.new ≡ W.faults output.old }
-    ensures output_later { W.faults output.old ≤ W.faults output.new }
-    ensures shelf_cause { result ≡ Status.ShelfFault → Rose (H.faults shelf.old) (H.faults shelf.new) }
-    ensures shelf_steady { result ≢ Status.WriteFault → result ≢ Status.ShelfFault
-        → H.faults shelf.new ≡ H.faults shelf.old }
-    ensures kept { KeepsFiles (H.files shelf.old) (H.files shelf.new) }
-    ensures shelf_later { H.faults shelf.old ≤ H.faults shelf.new }
-    ensures clock_telling { is_some (C.moments clock.new) ≡ is_some (C.moments clock.old) }
-    ensures clock_cause { result ≡ Status.ClockFault → Rose (C.faults clock.old) (C.faults clock.new) }
-    ensures clock_steady { result ≢ Status.WriteFault → result ≢ Status.ClockFault
-        → C.faults clock.new ≡ C.faults clock.old }
-    ensures clock_later { C.faults clock.old ≤ C.faults clock.new }
-{
-    let ended = said_of_files(alloc, command, shelf, clock);
-    conclude(output, ended)
-}
-
-/// Tells how the program is called.
-fn usage<W: Sink>(output: &mut W) -> Status
-    ensures ends { (left : Option (List ℕ))
-        → UsageEnds left left (W.written output.old) (W.written output.new) result }
-    ensures flushed { result ≢ Status.WriteFault → IsFlushed (W.flushed output.new) (W.written output.new) }
-    ensures telling { is_some (W.written output.new) ≡ is_some (W.written output.old) }
-    ensures flushed_telling { is_some (W.flushed output.new) ≡ is_some (W.flushed output.old) }
-    ensures write_cause { result ≡ Status.WriteFault → Rose (W.faults output.old) (W.faults output.new) }
-    ensures write_steady { result ≢ Status.WriteFault → W.faults output.new ≡ W.faults output.old }
-    ensures output_later { W.faults output.old ≤ W.faults output.new }
-{
-    end_with(
-        output,
-        b"usage: gatekeeper [--facts NAME] STORE COMMAND [WORDS]\n",
-        Status::Usage,
-    )
+    each_command_has_one_status();
+    a_run_begins_or_not();
+    obey(alloc, words, input, output, shelf, keeper, clock)
 }

@@ -1,0 +1,4 @@
+mod OneStatus
+mod Over
+mod Through
+mod WithoutDesk

@@ -1,0 +1,14 @@
+use Rattle.std.proofs.Common.{[]}
+use Rattle.table_commands.specs.EditSays.{SaysEdit}
+use Rattle.run_commands.proofs.Over.{does, reply_uttered}
+use Rattle.run_commands.proofs.on_tables.edit_over.Goals as goal
+
+pub returns-clause-says : goal.returns-clause-says
+returns-clause-says g c o stands =
+    does (g.K.Keeper.told c.edit_line-said.new.keeper) o c.edit_line-said.new.desk (λ after. SaysEdit o [] c.args.line.now c.in_ok-said.field-0.status c.in_ok-said.field-0.text after)
+    c.in_ok-said.ensures.mirrors (c.in_ok-said.ensures.says o [] stands)
+
+pub returns-clause-spoken : goal.returns-clause-spoken
+returns-clause-spoken g c o stands =
+    let says = c.in_ok-said.ensures.says o [] stands in
+    reply_uttered o c.args.line.now c.in_ok-said.field-0.status c.in_ok-said.field-0.text says.0 says.1

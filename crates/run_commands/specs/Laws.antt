@@ -1,0 +1,51 @@
+-- What commands say has one status; each law is proved on a function of src/laws.rt. This project's own.
+use Rattle.std.specs.Prelude.{◌≡◌, ℕ, List, Option, Some, IsSome, ⊤}
+use Rattle.gk_io.specs.Shelf.{File}
+use Rattle.policy_keeper.specs.Told.{Told}
+use Rattle.run_status.specs.declared.status.Status.{Status}
+use Rattle.run_status.specs.declared.status.Status.TheVariants.{FileMissing, FileTooLong, BadFacts, BadStore, Refused}
+use Rattle.command_words.specs.Table.{FileCommand, compile, compile_set, dump, assess, TableCommand}
+use Rattle.policy_model.specs.History.{Opening}
+use Rattle.desk_opening.specs.Opens.{TellsTheSame, IsOpening, SaysUnopened}
+use Rattle.run_commands.specs.Says.{FilesSay, TablesSay, told_through}
+
+-- the keeper tells its rows to a command on files that asks for them
+abbrev pub TellsRows : Told → FileCommand → Type 0
+TellsRows rows (compile name) = ⊤
+TellsRows rows (compile_set name) = ⊤
+TellsRows rows (dump name) = ⊤
+TellsRows rows (assess kind name code) = IsSome rows
+
+-- the statuses that come at whatever time the clock tells
+abbrev pub IsTimeless : Status → Type 0
+IsTimeless FileMissing = Unit {0}
+IsTimeless FileTooLong = Unit {0}
+IsTimeless BadFacts = Unit {0}
+IsTimeless BadStore = Unit {0}
+IsTimeless Refused = Unit {0}
+IsTimeless other = ⊥
+
+-- over files, rows and moments that are told a command on files says something with one status
+abbrev pub FilesHaveOneStatus : Type 0
+FilesHaveOneStatus = (files : List File) (moments : List ℕ) (rows : Told) (facts : Option (List ℕ)) (command : FileCommand) (first second : Status) (said other : List ℕ) → TellsRows rows command
+    → FilesSay (Some files) (Some moments) rows facts command first said → FilesSay (Some files) (Some moments) rows facts command second other → first ≡ second
+
+-- and at whatever time, where it is one of these
+abbrev pub TimelessStatusIsOne : Type 0
+TimelessStatusIsOne = (files : List File) (moments : Option (List ℕ)) (rows : Told) (facts : Option (List ℕ)) (command : FileCommand) (first second : Status) (said other : List ℕ) → TellsRows rows command → IsTimeless first
+    → FilesSay (Some files) moments rows facts command first said → FilesSay (Some files) moments rows facts command second other → first ≡ second
+
+-- a store that is bad is so to every command on the rules
+abbrev pub BadStoreIsOne : Type 0
+BadStoreIsOne = (files : List File) (rows kept : Told) (command : TableCommand) (second : Status) (said other : List ℕ) → IsSome rows
+    → TablesSay (Some files) rows kept command BadStore said → TablesSay (Some files) rows kept command second other → second ≡ BadStore
+
+-- where a run begins by what the keeper told when its desk was opened, it begins by what the keeper told throughout
+abbrev pub OpeningThrough : Type 0
+OpeningThrough = (files : Option (List File)) (name : Option (List ℕ)) (before mid after : Told) (o : Opening)
+    → TellsTheSame before mid → (IsSome after → IsSome mid) → IsOpening files name mid o → IsOpening files name (told_through before after) o
+
+-- and so it is with what is said where it doesn't begin
+abbrev pub UnopenedThrough : Type 0
+UnopenedThrough = (files : Option (List File)) (name : Option (List ℕ)) (before after : Told) (status : Status) (text : List ℕ)
+    → TellsTheSame before after → SaysUnopened files name after status text → SaysUnopened files name (told_through before after) status text

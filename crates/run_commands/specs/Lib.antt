@@ -1,0 +1,4 @@
+pub mod Halts
+pub mod Laws
+pub mod Says
+pub mod Spoken
