@@ -9,16 +9,21 @@ gatekeeper decides which code may be executed, installed or opened.
 
 usage: gatekeeper [--facts NAME] STORE COMMAND [WORDS]
 
-  gatekeeper :memory: session                   answers each line of standard input by a line
-  gatekeeper STORE assess KIND NAME [CODE]      assesses the code of a signature file at the system's time
-  gatekeeper STORE compile NAME                 writes the blob of the requirement whose text the file is
-  gatekeeper STORE compileset NAME              writes the blob of the set of requirements whose text the file is
-  gatekeeper STORE dump NAME                    writes the text of the requirement or set whose blob the file is
-  gatekeeper --help, -h                         shows this text
-  gatekeeper --version, -V                      shows the version
+  session                        answers each line of standard input by a line
+  add, remove, enable, disable, expire, switch
+                                 make one edit, whose line is the command and its words
+  status                         says whether assessments are enabled
+  list                           prints the rules
+  import NAME                    makes the edits of a CSV file
+  assess KIND NAME [CODE]        assesses the code of a signature file at the system's time
+  compile NAME, compileset NAME  writes the blob of the requirement or the set whose text the file is
+  dump NAME                      writes the text of the requirement or set whose blob the file is
+  rehearse N                     answers a session of N made-up lines, and counts its replies
+  --help, -h, --version, -V      show this text or the version, in the place of STORE
 
-So far the STORE of a session is `:memory:`, the other commands don't look at it, and --facts isn't read.
-gatekeeper(1) tells the lines, their answers and the exit statuses.
+STORE is a SQLite file, which is made if it isn't there, or :memory:. --facts names a file of what is known of code.
+Words that begin with - stand behind --. gatekeeper(1) tells the lines, their answers and the exit statuses, and
+gatekeeper-formats(5) the files.
 ";
 
 const VERSION: &[u8] = b"gatekeeper 0.1.0\n";
