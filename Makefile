@@ -1,5 +1,5 @@
 # make try        a first session in an unproved build: half a minute to a minute
-# make build      leaves the proved program in build/gatekeeper; where nothing is proved yet, it takes half an hour on four processors
+# make build      leaves the proved program in build/gatekeeper; where nothing is proved yet, it takes half an hour and more on four processors
 # make demo       the same session in the proved program
 # make test       the gate: proves all crates, tries the wrong bodies, runs tests and programs, and then 'make check'
 # make check      the repository's own checks of its program and its pages
