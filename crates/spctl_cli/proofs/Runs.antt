@@ -124,3 +124,21 @@ session_is_done apart files None kept facts o left now written sent status told 
 session_is_done apart files (Some raw) kept facts o left now written sent status told opening (inl e) a b d f h = opened_is_done kept e.opening begun left now written sent status e.ends a b d
 session_is_done apart files (Some raw) kept facts o left now written sent status told opening (inr e) a b d f h =
     spoken_is_starved apart files raw facts o written sent status opening e.spoken.end e.spoken.concludes b f e.unasked h
+
+-- without a facts file a run begins at the same place whatever files there are
+without_files : (files : Option (List File)) (rows : Told) (o : Opening) → IsOpening files None rows o → IsOpening (Some []) None rows o
+without_files files rows o opening = record {
+  facts = opening.facts;
+  facts_are = opening.facts_are;
+  tables = opening.tables;
+  stored = opening.stored;
+  opening_is = opening.opening_is;
+}
+
+-- so a session without a facts file is done, whatever the shelf tells
+pub session_without_facts_is_done : (apart : OpenedIsNotUnopened) (files : Option (List File)) (rows : Told) (kept : Kept) (o : Opening) (left now written sent : Option (List ℕ)) (status : Status) → IsSome rows → IsOpening files None rows o
+    → SessionRun files rows kept None left now written sent status → status ≢ ReadFault → status ≢ WriteFault → status ≢ SessionTooLong → status ≢ ShelfFault → status ≢ KeeperFault → (status ≡ Fine) ⊎ (status ≡ OutOfMemory)
+session_without_facts_is_done apart files None kept o left now written sent status told opening e a b d f h = absurd (nothing_told told)
+session_without_facts_is_done apart files (Some raw) kept o left now written sent status told opening (inl e) a b d f h = opened_is_done kept e.opening begun left now written sent status e.ends a b d
+session_without_facts_is_done apart files (Some raw) kept o left now written sent status told opening (inr e) a b d f h =
+    spoken_is_starved apart [] raw None o written sent status (without_files files (Some raw) o opening) e.spoken.end e.spoken.concludes b f e.unasked h

@@ -113,6 +113,18 @@ pub fn run<S: Source, W: Sink, H: Shelf, K: Keeper, C: Clock>(
         → ¬ Rose (K.faults keeper.old) (K.faults keeper.new)
         → (result ≡ Status.Fine) ⊎ (result ≡ Status.OutOfMemory) }
 
+    // The same without a facts file, whatever the shelf tells.
+    ensures complete_without_facts { (bytes : List ℕ) (store : List ℕ) (o : Opening)
+        → asked (texts words.now) ≡ Some (line_on store None model.session)
+        → IsSome (told_through (K.told keeper.old) (K.told keeper.new))
+        → IsOpening (H.files shelf.old) None (told_through (K.told keeper.old) (K.told keeper.new)) o
+        → S.left input.old ≡ Some bytes → IsWithin bytes
+        → ¬ Rose (S.faults input.old) (S.faults input.new)
+        → ¬ Rose (W.faults output.old) (W.faults output.new)
+        → ¬ Rose (H.faults shelf.old) (H.faults shelf.new)
+        → ¬ Rose (K.faults keeper.old) (K.faults keeper.new)
+        → (result ≡ Status.Fine) ⊎ (result ≡ Status.OutOfMemory) }
+
     // A command whose files are there, over devices that don't fail, does its work or is out of memory.
     ensures complete_on_files { (files : List File) (store : List ℕ) (facts : Option (List ℕ)) (command : model.FileCommand)
         → asked (texts words.now) ≡ Some (line_on store facts (model.on_files command))

@@ -1,5 +1,5 @@
 -- What is promised of a run follows of how it ends.
-use Rattle.std.proofs.Common.{◌≡◌, Some, sym, subst}
+use Rattle.std.proofs.Common.{◌≡◌, None, Some, sym, subst}
 use Rattle.run_status.specs.declared.status.Status.TheVariants.{FileMissing, FileTooLong, BadFacts, BadStore, Refused, Denied}
 use Rattle.command_words.specs.Table.{session, on_files}
 use Rattle.command_words.specs.Views.{texts}
@@ -8,7 +8,7 @@ use Rattle.spctl_cli.specs.Conclusions.{Concludes}
 use Rattle.spctl_cli.specs.Headline.{kept_by}
 use Rattle.spctl_cli.specs.Words.{asked, line_on}
 use Rattle.spctl_cli.specs.Ends.{SessionRun}
-use Rattle.spctl_cli.proofs.Runs.{usage_exactly, past_exactly, of_line, fine_session, session_is_done}
+use Rattle.spctl_cli.proofs.Runs.{usage_exactly, past_exactly, of_line, fine_session, session_is_done, session_without_facts_is_done}
 use Rattle.spctl_cli.proofs.WouldSay.{timeless_exactly, told_exactly, work_is_done}
 use Rattle.spctl_cli.proofs.program.run.Goals as goal
 
@@ -86,6 +86,14 @@ returns-clause-complete g c files bytes store facts o is told rows_told opening 
     let end = of_line (g.H.Shelf.files c.args.shelf.now) (g.C.Clock.moments c.args.clock.now) rows kept (g.S.Source.left c.args.input.now) (g.S.Source.left c.obey.new.input) (g.W.Sink.written c.args.output.now) (g.W.Sink.written c.obey.new.output) c.obey.result (asked (texts c.args.words.now)) (line_on store facts session) is c.obey.ensures.ends in
     session_is_done c.a_run_begins_or_not.ensures.apart files rows kept facts o _ _ _ _ c.obey.result rows_told opening
     (subst (λ shelf. SessionRun shelf rows kept facts (g.S.Source.left c.args.input.now) (g.S.Source.left c.obey.new.input) (g.W.Sink.written c.args.output.now) (g.W.Sink.written c.obey.new.output) c.obey.result) told end)
+    (λ e. input (c.obey.ensures.read_cause e)) (λ e. output (c.obey.ensures.write_cause e)) (c.obey.ensures.within bytes left within) (λ e. shelf (c.obey.ensures.shelf_cause e)) (λ e. keeper (c.obey.ensures.keeper_cause e))
+
+pub returns-clause-complete_without_facts : goal.returns-clause-complete_without_facts
+returns-clause-complete_without_facts g c bytes store o is rows_told opening left within input output shelf keeper =
+    let rows = told_through (g.K.Keeper.told c.args.keeper.now) (g.K.Keeper.told c.obey.new.keeper) in
+    let kept = kept_by (g.K.Keeper.told c.obey.new.keeper) (g.K.Keeper.faults c.args.keeper.now) (g.K.Keeper.faults c.obey.new.keeper) in
+    let end = of_line (g.H.Shelf.files c.args.shelf.now) (g.C.Clock.moments c.args.clock.now) rows kept (g.S.Source.left c.args.input.now) (g.S.Source.left c.obey.new.input) (g.W.Sink.written c.args.output.now) (g.W.Sink.written c.obey.new.output) c.obey.result (asked (texts c.args.words.now)) (line_on store None session) is c.obey.ensures.ends in
+    session_without_facts_is_done c.a_run_begins_or_not.ensures.apart (g.H.Shelf.files c.args.shelf.now) rows kept o _ _ _ _ c.obey.result rows_told opening end
     (λ e. input (c.obey.ensures.read_cause e)) (λ e. output (c.obey.ensures.write_cause e)) (c.obey.ensures.within bytes left within) (λ e. shelf (c.obey.ensures.shelf_cause e)) (λ e. keeper (c.obey.ensures.keeper_cause e))
 
 pub returns-clause-complete_on_files : goal.returns-clause-complete_on_files
