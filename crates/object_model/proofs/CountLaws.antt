@@ -35,7 +35,7 @@ some_of x xs true = lt-ltb 0 (suc (length xs)) (omega arith)
 some_of x xs false = refl
 
 -- some event touches the kind
-some_late : (kind : Kind) (late : List (List Row)) → nat_lt 0 (length (filter (touches kind) late)) ≡ list_any (touches kind) late
+pub some_late : (kind : Kind) (late : List (List Row)) → nat_lt 0 (length (filter (touches kind) late)) ≡ list_any (touches kind) late
 some_late kind [] = refl
 some_late kind (t ∷ late) = some_of t (filter (touches kind) late) (touches kind t) ∙ ap (λ b. touches kind t || b) (some_late kind late)
 

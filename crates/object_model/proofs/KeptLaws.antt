@@ -49,7 +49,8 @@ offer_lasts o h k a s most still lasts =
     ap (λ (t : Tables). filter p t.rows) (sym (tables_cut o k h)) ∙ events_keep p (rests_steadily x.kind x.outcome) (drop k h) (tables_of o (take k h)) apart.0 in
     record { lasts = lasts; right = right_through (tables_of o (take k h)).rows (tables_of o h).rows o.facts (now_of o (take k h)) (now_of o h) x (sym same) (now_cut o k h) lasts (outcome_says (tables_of o (take k h)).rows a.kind s o.facts (now_of o (take k h))) }
 
-when_offered : (rows : List Row) (facts : Facts) (now : ℕ) (e : Entry) (objects : List Entry) (a b c d f : Bool) → (b ≡ false → c ≡ false → Lasts rows facts now e) → AllLast rows facts now objects → AllLast rows facts now (with_offer (by_rules a b c d f) e objects)
+-- an offer keeps every entry right, if what is kept of it is
+pub when_offered : (rows : List Row) (facts : Facts) (now : ℕ) (e : Entry) (objects : List Entry) (a b c d f : Bool) → (b ≡ false → c ≡ false → Lasts rows facts now e) → AllLast rows facts now objects → AllLast rows facts now (with_offer (by_rules a b c d f) e objects)
 when_offered rows facts now e objects true b c d f new old = old
 when_offered rows facts now e objects false true c d f new old = old
 when_offered rows facts now e objects false false true d f new old = old

@@ -19,3 +19,5 @@ pub mod RingLaws
 pub mod StandsLemmas
 pub mod FreshDesk
 pub mod MarkBounds
+pub mod SameKind
+pub mod OfDesk

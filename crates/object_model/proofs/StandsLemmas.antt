@@ -102,7 +102,8 @@ edit_stands d o h e s = record {
   legal = legal_more o h (edit e) s.legal (λ k is. cc);
 }
 
-count_mark : (o : Opening) (h : List Event) (kind : Kind) → count_of kind (counts_of o h) ≡ mark_of o h kind
+-- the counts of a history are its marks
+pub count_mark : (o : Opening) (h : List Event) (kind : Kind) → count_of kind (counts_of o h) ≡ mark_of o h kind
 count_mark o h execute = refl
 count_mark o h install = refl
 count_mark o h document = refl
@@ -120,7 +121,7 @@ last_one : (m : ℕ) (e : Entry) (xs : List Entry) → is_unexpired m e ≡ true
 last_one m e xs lasts = filter-append (is_unexpired m) xs (e ∷ []) ∙ ap (λ r. filter (is_unexpired m) xs ++ r) (grind (arith, lasts))
 
 -- what is kept hasn't ended, so it is counted; those that have ended may be swept
-offer_counts : (m : ℕ) (e : Entry) (xs : List Entry) (a b c f g : Bool) → not (is_unexpired m e) ≡ c → filter (is_unexpired m) (swept_offer m (by_rules a b c f g) e xs) ≡ with_offer (by_rules a b c f g) e (filter (is_unexpired m) xs)
+pub offer_counts : (m : ℕ) (e : Entry) (xs : List Entry) (a b c f g : Bool) → not (is_unexpired m e) ≡ c → filter (is_unexpired m) (swept_offer m (by_rules a b c f g) e xs) ≡ with_offer (by_rules a b c f g) e (filter (is_unexpired m) xs)
 offer_counts m e xs true b c f g is = refl
 offer_counts m e xs false true c f g is = refl
 offer_counts m e xs false false true f g is = refl

@@ -1,4 +1,4 @@
--- What an edit drops, in the words of the paper.
+-- What an edit drops, said by the rules that are before others.
 use Rattle.std.proofs.Common.{◌≡◌, List, [], ◌∷◌, refl, arith, inl, inr}
 use Rattle.std.specs.Prelude.{All, Bool, true, false, not, ◌&&◌}
 use Rattle.std.specs.List.{list_any}

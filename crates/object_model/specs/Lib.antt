@@ -11,3 +11,5 @@ pub mod DropLaws
 pub mod Stands
 pub mod StandsLaws
 pub mod Origins
+pub mod OfDesk
+pub mod OfDeskLaws

@@ -1,6 +1,7 @@
 //! Laws over the definitions: functions that do nothing and whose contracts are the laws.
 
 ghost use Rattle.object_model.specs.StandsLaws.{KnownAnswers, BeginGives, OpeningStands, TickStands, QuietStands, EditStands, FinishStands, TickKeepsFresh, EditKeepsFresh, StandsFresh, MarksStayBelow};
+ghost use Rattle.object_model.specs.OfDeskLaws.{BeginsOfDesk, TickKeepsOf, EditKeepsOf, EntriesKeepOf, OfferKeepsFresh, FinishKeepsFresh, HistoryTicketsAreOf};
 ghost use Rattle.object_model.specs.Laws.{StaysSound, FreshIsSound, HoldsUntil, FoundAnswers, TickKeeps, EditKeeps, OfferKeeps, TicketStays, TicketJudges, TicketAnswers, TicketDecides};
 ghost use Rattle.object_model.specs.DropLaws.{MovedByCounts, MovedByRing, GovernedOutlasts, DefaultOutlasts, TickPassesOver, EditPassesOver, EditPurges, CountsPurges, MarksPurge};
 
@@ -68,6 +69,17 @@ pub fn a_desk_is_fresh()
     ensures tick { TickKeepsFresh }
     ensures edit { EditKeepsFresh }
     ensures stands { StandsFresh }
+    ensures offer { OfferKeepsFresh }
+    ensures finish { FinishKeepsFresh }
+{}
+
+/// What is judged on a desk is of that desk, and stays so through all that happens on it.
+pub fn what_was_judged_is_of_the_desk()
+    ensures begin { BeginsOfDesk }
+    ensures tick { TickKeepsOf }
+    ensures edit { EditKeepsOf }
+    ensures entries { EntriesKeepOf }
+    ensures ticket { HistoryTicketsAreOf }
 {}
 
 /// No mark passes the number of receipts.
