@@ -7,6 +7,7 @@ use Rattle.std.specs.Prelude.{Bool, true, false, nat_lt, Option, Some}
 use Rattle.std.proofs.lemmas.Bool.{both_ways}
 use Rattle.req_tree.specs.Subject.{Subject}
 use Rattle.req_tree.specs.Facts.{Facts}
+use Rattle.req_tree.specs.Meaning.{mean}
 use Rattle.policy_model.specs.Rules.{Row, Kind, rank_of, Before, Meets, IsFirstOf}
 use Rattle.policy_model.specs.Laws.{PassesOver, PassesOverLater}
 use Rattle.authority_table.specs.declared.found.Found.{Found}
@@ -26,6 +27,13 @@ pub may_be_latent : PassesOver → (kind : Kind) (subject : Subject) (facts : Fa
 may_be_latent law kind subject facts m rows x f g h n same latent = record {
   governing = subst (IsFirstOf (Meets false kind subject facts m) (rows ++ x ∷ [])) (sym same) (law false kind subject facts m rows x (governing_row f) h.governing (λ k. both_ways (nat_lt 0 x.disabled) k.counted n));
   latent = subst (λ d. IsFirstOf (Meets d kind subject facts m) (rows ++ x ∷ []) (latent_row g)) n (latent (subst (λ d. IsFirstOf (Meets d kind subject facts m) rows (latent_row f)) (sym n) h.latent));
+}
+
+-- a rule whose requirement doesn't hold changes nothing
+pub found_beside : PassesOver → (kind : Kind) (subject : Subject) (facts : Facts) (m : ℕ) (rows : List Row) (x : Row) (f : Found) → mean x.tree subject facts ≡ false → IsFound rows kind subject facts m f → IsFound (rows ++ x ∷ []) kind subject facts m f
+found_beside law kind subject facts m rows x f e h = record {
+  governing = law false kind subject facts m rows x (governing_row f) h.governing (λ k. both_ways (mean x.tree subject facts) e k.applies.means_true);
+  latent = law true kind subject facts m rows x (latent_row f) h.latent (λ k. both_ways (mean x.tree subject facts) e k.applies.means_true);
 }
 
 -- the rule that was found stays, where the next isn't before it

@@ -48,11 +48,11 @@ room_takes rules n h =
     ap (λ b. if b then None else Some table_full) (sym lt)
 
 -- a rule that is added
-pub plan_of_insert : (rules : List Rule) (rule : Rule) (room : Room) (t : Touched) → HasRoom (length rules) room → IsTouched (row_of rule ∷ []) t →
-    IsPlan (record { step = Insert rule room; touched = t; count = 1 }) (rows_of rules) (rows_of rules ++ row_of rule ∷ []) (row_of rule ∷ [])
-plan_of_insert rules rule room t h touched = record {
+pub plan_of_insert : (rules : List Rule) (rule held : Rule) (room : Room) (t : Touched) → held ≡ rule → HasRoom (length rules) room → IsTouched (row_of rule ∷ []) t →
+    IsPlan (record { step = Insert held room; touched = t; count = 1 }) (rows_of rules) (rows_of rules ++ row_of rule ∷ []) (row_of rule ∷ [])
+plan_of_insert rules rule held room t is h touched = record {
   fits = subst (λ n. HasRoom n room) (sym (length-map rules row_of)) h;
-  leaves = refl;
+  leaves = ap (λ (r : Rule). rows_of rules ++ row_of r ∷ []) is;
   count = refl;
   first_in = touched;
 }

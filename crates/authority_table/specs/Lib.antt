@@ -15,4 +15,5 @@ pub mod Changes
 pub mod Prepared
 pub mod Spans
 pub mod Marks
+pub mod FirstByte
 pub mod Held

@@ -15,10 +15,10 @@ ghost use Rattle.authority_table.specs.Marks.{AreMarks};
 ghost use Rattle.authority_table.specs.declared.row_change.RowChange.TheVariants.{Remove};
 ghost use Rattle.policy_model.specs.declared.limits.TheConstants.{MOST_RULES};
 
+use crate::held_rule::HeldRule;
 use crate::removal::remove;
 use crate::rooms;
 use crate::row_change::RowChange;
-use crate::rule::Rule;
 use crate::selector::Selector;
 use crate::span::{Span, span_of};
 
@@ -51,7 +51,7 @@ fn move_if_full<T: Drop>(list: &mut Vec<T>, room: Vec<T>)
 
 /// Changes the selected rules, or takes them out.
 pub(crate) fn change(
-    rules: &mut Vec<Rule>,
+    rules: &mut Vec<HeldRule>,
     marks: &mut Vec<u32>,
     rising: bool,
     selector: &Selector,
@@ -75,7 +75,7 @@ pub(crate) fn change(
 }
 
 /// Changes the selected rules where they are.
-fn change_in_place(rules: &mut Vec<Rule>, span: Span, selector: &Selector, change: &RowChange)
+fn change_in_place(rules: &mut Vec<HeldRule>, span: Span, selector: &Selector, change: &RowChange)
     requires span { IsSpan (selector_of selector.now) (rows_of rules.old.items) span }
     requires counts { least_id (full_rows (content_by selector.now change.now) (rows_of rules.old.items)) ≡ None }
     requires stays { change.now ≢ Remove }
@@ -86,7 +86,7 @@ fn change_in_place(rules: &mut Vec<Rule>, span: Span, selector: &Selector, chang
     change_each(rules, span, selector, change)
 }
 
-fn change_each(rules: &mut [Rule], span: Span, selector: &Selector, change: &RowChange)
+fn change_each(rules: &mut [HeldRule], span: Span, selector: &Selector, change: &RowChange)
     requires span { IsSpan (selector_of selector.now) (rows_of rules.old) span }
     requires counts { least_id (full_rows (content_by selector.now change.now) (rows_of rules.old)) ≡ None }
     ensures { rows_of rules.new ≡ model.change (selects (selector_of selector.now)) (changed_by change.now) (rows_of rules.old) }
@@ -97,7 +97,7 @@ fn change_each(rules: &mut [Rule], span: Span, selector: &Selector, change: &Row
 }
 
 /// Changes the rule if it is selected.
-fn change_selected(rule: &mut Rule, selector: &Selector, change: &RowChange)
+fn change_selected(rule: &mut HeldRule, selector: &Selector, change: &RowChange)
     requires { least_id (full_rows (content_by selector.now change.now) (row_of rule.old ∷ [])) ≡ None }
     ensures { row_of rule.new ≡ if selects (selector_of selector.now) (row_of rule.old) then changed_by change.now (row_of rule.old) else row_of rule.old }
 {

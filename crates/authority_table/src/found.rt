@@ -8,6 +8,7 @@ ghost use Rattle.policy_model.specs.Rules as model;
 ghost use Rattle.fact_values.specs.Knowledge.{known_in};
 ghost use Rattle.authority_table.specs.Kind.{kind_of};
 
+use crate::held_rule::HeldRule;
 use crate::kind::Kind;
 use crate::moment::Moment;
 use crate::rule::Rule;
@@ -27,6 +28,27 @@ pub struct Found<'a> {
 impl<'a> Found<'a> {
     ghost use Rattle.authority_table.specs.Rule.{row_of};
     ghost use Rattle.authority_table.specs.Found.{IsFound};
+
+    /// What a search finds that also looks at this rule, if its requirement can hold.
+    pub(crate) fn with_held(
+        self,
+        rule: &'a HeldRule,
+        kind: Kind,
+        subject: &Subject,
+        facts: Option<&Facts>,
+        at: Moment,
+    ) -> Found<'a>
+        ensures { (all : f.Facts) → known_of all (subject_of subject.now).cdhash ≡ known_in facts.entry
+            → (rows : List model.Row) → IsFound rows (kind_of kind) (subject_of subject.now) all at self.entry
+            → IsFound (rows ++ row_of rule.now ∷ []) (kind_of kind) (subject_of subject.now) all at result }
+    {
+        search_goes_on();
+        if rule.may_hold(subject) {
+            self.with(rule.get(), kind, subject, facts, at)
+        } else {
+            self
+        }
+    }
 
     /// What a search finds that also looks at this rule.
     pub fn with(

@@ -4,6 +4,7 @@
 mod changes;
 mod fault;
 mod found;
+mod held_rule;
 mod kind;
 mod label;
 mod marks;

@@ -4,11 +4,11 @@ ghost use Rattle.std.specs.Prelude.{◌≡◌, option_map};
 ghost use Rattle.authority_table.specs.Kind.{kind_of};
 ghost use Rattle.authority_table.specs.Rank.{rank_view};
 
+use crate::held_rule::HeldRule;
 use crate::kind::Kind;
 use crate::rank::Rank;
 use crate::rooms::Room;
 use crate::row_change::RowChange;
-use crate::rule::Rule;
 use crate::selector::Selector;
 use crate::touched::Touched;
 
@@ -17,7 +17,7 @@ use crate::touched::Touched;
 pub enum Step {
     /// A rule is added behind all others; the room is for a table whose memory is used up.
     Insert {
-        rule: Rule,
+        rule: HeldRule,
         room: Room,
     },
     Change {

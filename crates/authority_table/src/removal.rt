@@ -8,12 +8,17 @@ ghost use Rattle.authority_table.specs.Selector.{selector_of};
 ghost use Rattle.authority_table.specs.Spans.{IsSpan};
 ghost use Rattle.authority_table.specs.Marks.{AreMarks};
 
-use crate::rule::Rule;
+use crate::held_rule::HeldRule;
 use crate::selector::Selector;
 use crate::span::Span;
 
 /// Takes the selected rules out; none is outside of the span.
-pub(crate) fn remove(rules: &mut Vec<Rule>, marks: &mut Vec<u32>, span: Span, selector: &Selector)
+pub(crate) fn remove(
+    rules: &mut Vec<HeldRule>,
+    marks: &mut Vec<u32>,
+    span: Span,
+    selector: &Selector,
+)
     requires span { IsSpan (selector_of selector.now) (rows_of rules.old.items) span }
     requires marked { AreMarks (rows_of rules.old.items) marks.old.items }
     ensures rows { rows_of rules.new.items ≡ filter (λ r. not (selects (selector_of selector.now) r)) (rows_of rules.old.items) }
@@ -30,7 +35,7 @@ pub(crate) fn remove(rules: &mut Vec<Rule>, marks: &mut Vec<u32>, span: Span, se
 }
 
 /// Takes the rule at this place out if it is selected; no other one is.
-fn remove_at(rules: &mut Vec<Rule>, marks: &mut Vec<u32>, at: usize, selector: &Selector)
+fn remove_at(rules: &mut Vec<HeldRule>, marks: &mut Vec<u32>, at: usize, selector: &Selector)
     requires span { IsSpan (selector_of selector.now) (rows_of rules.old.items) (record { from = at; to = at + 1 }) }
     requires marked { AreMarks (rows_of rules.old.items) marks.old.items }
     ensures rows { rows_of rules.new.items ≡ filter (λ r. not (selects (selector_of selector.now) r)) (rows_of rules.old.items) }
@@ -46,7 +51,7 @@ fn remove_at(rules: &mut Vec<Rule>, marks: &mut Vec<u32>, at: usize, selector: &
 }
 
 /// Takes the selected rules out in one pass; none is before the first place.
-fn remove_each(rules: &mut Vec<Rule>, marks: &mut Vec<u32>, from: usize, selector: &Selector)
+fn remove_each(rules: &mut Vec<HeldRule>, marks: &mut Vec<u32>, from: usize, selector: &Selector)
     requires within { from ≤ length rules.old.items }
     requires front { filter (selects (selector_of selector.now)) (take from (rows_of rules.old.items)) ≡ [] }
     requires marked { AreMarks (rows_of rules.old.items) marks.old.items }

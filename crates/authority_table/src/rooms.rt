@@ -4,7 +4,7 @@ ghost use Rattle.std.specs.Prelude.{◌≡◌, ◌<◌, ◌≤◌, ◌+◌, ◌+
 ghost use Rattle.policy_model.specs.declared.limits.TheConstants.{MOST_RULES};
 ghost use Rattle.authority_table.specs.Rooms as rooms;
 
-use crate::rule::Rule;
+use crate::held_rule::HeldRule;
 use policy_model::limits::MOST_RULES;
 use std::alloc::{AllocError, Global};
 
@@ -34,7 +34,7 @@ ghost use Rattle.authority_table.specs.Prepared.{HasRoom, IsSpare};
 /// Memory for the rules of a table and for their marks.
 #[derive(Drop)]
 pub struct Room {
-    pub rules: Vec<Rule>,
+    pub rules: Vec<HeldRule>,
     pub marks: Vec<u32>,
 }
 
@@ -61,7 +61,7 @@ fn spare_behind<T: Drop>(alloc: Global, count: usize) -> Result<Vec<T>, AllocErr
 }
 
 /// Adds a rule behind all others; where there is no memory, the rules are as before.
-pub(crate) fn pushed(rules: &mut Vec<Rule>, rule: Rule) -> Result<(), AllocError>
+pub(crate) fn pushed(rules: &mut Vec<HeldRule>, rule: HeldRule) -> Result<(), AllocError>
     requires held { rooms.room_for (length rules.old.items) ≤ vec_capacity rules.old }
     requires room { length rules.old.items < MOST_RULES }
     ensures held { rooms.room_for (length rules.new.items) ≤ vec_capacity rules.new }

@@ -9,6 +9,7 @@ ghost use Rattle.authority_table.specs.Selector.{selector_of};
 ghost use Rattle.authority_table.specs.Spans.{AreRising, IsSpan};
 ghost use Rattle.authority_table.specs.Marks.{AreMarks};
 
+use crate::held_rule::HeldRule;
 use crate::marks::span_of_label;
 use crate::rule::Rule;
 use crate::rule_id::RuleId;
@@ -23,7 +24,7 @@ pub struct Span {
 
 /// A span outside of which no rule is selected. Where the numbers of the rules rise, one is searched for by halves; a
 /// label is searched for among the marks.
-pub(crate) fn span_of(rules: &[Rule], marks: &[u32], rising: bool, selector: &Selector) -> Span
+pub(crate) fn span_of(rules: &[HeldRule], marks: &[u32], rising: bool, selector: &Selector) -> Span
     requires rise { rising ≡ true → AreRising rules.now }
     requires marked { AreMarks (rows_of rules.now) marks.now }
     ensures { IsSpan (selector_of selector.now) (rows_of rules.now) result }
@@ -38,7 +39,7 @@ pub(crate) fn span_of(rules: &[Rule], marks: &[u32], rising: bool, selector: &Se
     }
 }
 
-fn span_of_id(rules: &[Rule], id: RuleId) -> Span
+fn span_of_id(rules: &[HeldRule], id: RuleId) -> Span
     requires { AreRising rules.now }
     ensures { (selector : model.Selector) → selector.which ≡ by_id id → IsSpan selector (rows_of rules.now) result }
 {
@@ -51,16 +52,16 @@ fn span_of_id(rules: &[Rule], id: RuleId) -> Span
 }
 
 /// The first place whose rule has this number or a greater one.
-fn place_of(rules: &[Rule], id: RuleId) -> usize
+fn place_of(rules: &[HeldRule], id: RuleId) -> usize
     requires { AreRising rules.now }
     ensures within { result ≤ length rules.now }
     ensures place { IsPartitionPoint (λ r. nat_lt r.id id ≡ true) (λ r. nat_lt r.id id ≡ false) rules.now result }
 {
-    rules.partition_point(|rule| rule.id < id)
+    rules.partition_point(|rule| rule.get().id < id)
 }
 
 /// Whether the numbers of rules still rise with one more behind them.
-pub(crate) fn rises_with(rules: &[Rule], rising: bool, rule: &Rule) -> bool
+pub(crate) fn rises_with(rules: &[HeldRule], rising: bool, rule: &Rule) -> bool
     requires { rising ≡ true → AreRising rules.now }
     ensures { result ≡ true → AreRising (rules.now ++ rule.now ∷ []) }
 {
@@ -68,6 +69,6 @@ pub(crate) fn rises_with(rules: &[Rule], rising: bool, rule: &Rule) -> bool
     if count == 0 {
         true
     } else {
-        rising && rules[count - 1].id < rule.id
+        rising && rules[count - 1].get().id < rule.id
     }
 }

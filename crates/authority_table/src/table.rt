@@ -12,6 +12,7 @@ ghost use Rattle.authority_table.specs.Kind.{kind_of};
 use crate::changes;
 use crate::fault::PlanFault;
 use crate::found::Found;
+use crate::held_rule::HeldRule;
 use crate::kind::Kind;
 use crate::marks::mark_of;
 use crate::moment::Moment;
@@ -35,11 +36,12 @@ use std::sync::Arc;
 /// Up to `MOST_RULES` rules.
 #[derive(Drop)]
 pub struct Table {
-    rules: Vec<Rule>,
+    rules: Vec<HeldRule>,
     /// The mark of each rule's label.
     marks: Vec<u32>,
     /// The numbers of the rules are known to rise.
     rising: bool,
+    alloc: Global,
 }
 
 impl Model for Table {
@@ -77,6 +79,7 @@ impl Table {
             rules: Vec::new(alloc),
             marks: Vec::new(alloc),
             rising: true,
+            alloc,
         }
     }
 
@@ -102,6 +105,7 @@ impl Table {
     {
         let rising = rises_with(&self.rules, self.rising, &rule);
         let mark = mark_of(&rule.label);
+        let rule = HeldRule::new(self.alloc, rule)?;
         reserve_mark(&mut self.marks)?;
         pushed(&mut self.rules, rule)?;
         self.marks.push_reserved(mark);
@@ -140,6 +144,7 @@ impl Table {
         }
         let room = room_behind(alloc, self.rules.len())?;
         let touched = Touched::none().with(&rule);
+        let rule = HeldRule::new(alloc, rule)?;
         Ok(Prepared {
             step: Step::Insert { rule, room },
             touched,
@@ -181,9 +186,9 @@ impl Table {
         let Prepared { step, .. } = plan;
         match step {
             Step::Insert { rule, room } => {
-                self.rising = rises_with(&self.rules, self.rising, &rule);
+                self.rising = rises_with(&self.rules, self.rising, rule.get());
                 let Room { rules, marks } = room;
-                changes::insert(&mut self.marks, mark_of(&rule.label), marks);
+                changes::insert(&mut self.marks, mark_of(&rule.get().label), marks);
                 changes::insert(&mut self.rules, rule, rules)
             }
             Step::Change { selector, change } => {
@@ -225,7 +230,7 @@ impl Table {
             latent: None,
         };
         for rule in &self.rules {
-            found = found.with(rule, kind, subject, facts, at);
+            found = found.with_held(rule, kind, subject, facts, at);
         }
         found
     }
@@ -235,13 +240,13 @@ ghost use Rattle.authority_table.specs.Rule.{rows_of};
 ghost use Rattle.authority_table.specs.Snapshot.{of_kind, IsSnapshot};
 
 /// Copies of the rules of a kind.
-fn copies(alloc: Global, rules: &[Rule], kind: Kind) -> Result<Rules, AllocError>
+fn copies(alloc: Global, rules: &[HeldRule], kind: Kind) -> Result<Rules, AllocError>
     ensures { IfOk result (λ copies. rows_of copies ≡ of_kind (kind_of kind) (rows_of rules.now)) }
 {
     let mut copies = Rules::new(alloc);
     for rule in rules {
-        if rule.kind.is(kind) {
-            copies.push(rule.copied(alloc)?)?;
+        if rule.get().kind.is(kind) {
+            copies.push(rule.get().copied(alloc)?)?;
         }
     }
     Ok(copies)
@@ -250,12 +255,12 @@ fn copies(alloc: Global, rules: &[Rule], kind: Kind) -> Result<Rules, AllocError
 ghost use Rattle.std.specs.List.{find};
 ghost use Rattle.authority_table.specs.Found.{row_found};
 
-fn rule_of(rules: &[Rule], id: RuleId) -> Option<&Rule>
+fn rule_of(rules: &[HeldRule], id: RuleId) -> Option<&Rule>
     ensures { row_found result ≡ find (λ r. r.id == id) (rows_of rules.now) }
 {
     for rule in rules {
-        if rule.id == id {
-            return Some(rule);
+        if rule.get().id == id {
+            return Some(rule.get());
         }
     }
     None

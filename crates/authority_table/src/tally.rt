@@ -13,6 +13,7 @@ ghost use Rattle.authority_table.specs.Marks.{AreMarks};
 ghost use Rattle.authority_table.specs.Tally.{IsTally};
 
 use crate::fault::PlanFault;
+use crate::held_rule::HeldRule;
 use crate::row_change::RowChange;
 use crate::rule::Rule;
 use crate::rule_id::RuleId;
@@ -94,7 +95,7 @@ fn lesser(id: RuleId, other: Option<RuleId>) -> RuleId
 }
 
 /// What an edit with this selector would touch of the rules.
-pub(crate) fn tallied(rules: &[Rule], marks: &[u32], rising: bool, selector: &Selector) -> Tally
+pub(crate) fn tallied(rules: &[HeldRule], marks: &[u32], rising: bool, selector: &Selector) -> Tally
     requires few { length rules.now ≤ MOST_RULES }
     requires rise { rising ≡ true → AreRising rules.now }
     requires marked { AreMarks (rows_of rules.now) marks.now }
@@ -105,13 +106,13 @@ pub(crate) fn tallied(rules: &[Rule], marks: &[u32], rising: bool, selector: &Se
 }
 
 /// The same by one look at each rule.
-fn tallied_each(rules: &[Rule], selector: &Selector) -> Tally
+fn tallied_each(rules: &[HeldRule], selector: &Selector) -> Tally
     requires { length rules.now ≤ MOST_RULES }
     ensures { IsTally (selector_of selector.now) (rows_of rules.now) result }
 {
     let mut tally = Tally::none();
     for rule in rules {
-        tally = tally.with(rule, selector);
+        tally = tally.with(rule.get(), selector);
     }
     tally
 }

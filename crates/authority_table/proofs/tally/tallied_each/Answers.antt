@@ -1,4 +1,7 @@
-use Rattle.std.proofs.Common.{rules, ◌≡◌, ◌≤◌, length, take, length-take-le, arith}
+use Rattle.std.proofs.Common.{rules, ◌≡◌, ◌≤◌, length, take, length-take-le, [], ◌∷◌, ◌++◌, subst, arith}
+use Rattle.authority_table.specs.declared.rule.Rule.{Rule}
+use Rattle.authority_table.specs.Rule.{row_of, rows_of}
+use Rattle.authority_table.specs.Tally.{IsTally}
 use Rattle.authority_table.specs.Selector.{selector_of}
 use Rattle.authority_table.proofs.TallyGoesOn.{tally_further, tally_fewer}
 use Rattle.authority_table.proofs.tally.tallied_each.Goals as goal
@@ -13,7 +16,9 @@ with-tally-requires c =
 
 pub loop-rule-preserved : goal.loop-rule-preserved
 loop-rule-preserved c =
-    tally_further (selector_of c.args.selector.now) c.args.rules.now c.loop-rule.rule-index _ _ _ (search rules) c.rule-item.is (c.with-tally.ensures _ c.loop-rule.invariant)
+    tally_further (selector_of c.args.selector.now) c.args.rules.now c.loop-rule.rule-index _ _ _ (search rules) c.rule-item.is
+    (subst (λ (r : Rule). IsTally (selector_of c.args.selector.now) (rows_of (take c.loop-rule.rule-index c.args.rules.now) ++ row_of r ∷ []) c.with-tally.result) c.get.ensures
+    (c.with-tally.ensures _ c.loop-rule.invariant))
 
 pub loop-rule-init : goal.loop-rule-init
 loop-rule-init c = c.none-tally.ensures (selector_of c.args.selector.now)

@@ -5,5 +5,5 @@ use Rattle.authority_table.proofs.table.Table.plan_insert.Goals as goal
 
 pub returns-clause-planned : goal.returns-clause-planned
 returns-clause-planned c =
-    plan_of_insert c.args.self.now c.args.rule c.in_ok-room.room c.with-touched.result
+    plan_of_insert c.args.self.now c.args.rule c.in_ok-rule.rule c.in_ok-room.room c.with-touched.result c.in_ok-rule.ensures
     (subst (λ n. HasRoom n c.in_ok-room.room) (c.len.ensures ∙ (c.self.inside.rules.ok.0 ∙ ap length c.self.view_is)) c.in_ok-room.ensures) (c.with-touched.ensures [] c.none.ensures)
