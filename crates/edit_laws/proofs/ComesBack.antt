@@ -5,7 +5,7 @@ use Rattle.policy_model.specs.Keys.{is_key}
 use Rattle.policy_model.specs.Texts.{content_text}
 use Rattle.line_words.specs.Faults.{fault_of}
 use Rattle.line_words.specs.declared.fault.LineFault.{LineFault}
-use Rattle.line_words.specs.declared.fault.LineFault.TheVariants.{BadLine, BadRequirement, BadPriority, BadMoment, BadLabel, BadKey, RequirementTooLong, NotBuilt, OutOfMemory}
+use Rattle.line_words.specs.declared.fault.LineFault.TheVariants.{BadLine, BadRequirement, BadPriority, BadMoment, BadLabel, BadKey, RequirementTooLong, OutOfMemory}
 use Rattle.line_laws.specs.Limits.{FitsLine}
 use Rattle.line_laws.specs.EditTexts.{edit_text}
 use Rattle.line_laws.specs.Laws.{ContentReadsBack, EditReadsBack, TextAsksForOneContent, LineAsksForOneEdit, ContentHasNoFault, EditHasNoFault}
@@ -24,7 +24,6 @@ is_memory BadMoment h = absurd (h (λ e. cc))
 is_memory BadLabel h = absurd (h (λ e. cc))
 is_memory BadKey h = absurd (h (λ e. cc))
 is_memory RequirementTooLong h = absurd (h (λ e. cc))
-is_memory NotBuilt h = absurd (h (λ e. cc))
 
 pub content_comes_back : ContentReadsBack → TextAsksForOneContent → ContentHasNoFault → (content : Content) → ∥ FitsLine (content_of content) ∥₁ → ContentComesBack content
 content_comes_back back one apart content fits (Ok read) reads =

@@ -1,7 +1,7 @@
 -- A text that is no requirement makes its row one whose last column doesn't fit.
 use Rattle.std.proofs.Common.{◌≡◌, ℕ, Ok, Err, refl}
 use Rattle.line_words.specs.declared.fault.LineFault.{LineFault}
-use Rattle.line_words.specs.declared.fault.LineFault.TheVariants.{BadLine, BadRequirement, BadPriority, BadMoment, BadLabel, BadKey, RequirementTooLong, NotBuilt, OutOfMemory}
+use Rattle.line_words.specs.declared.fault.LineFault.TheVariants.{BadLine, BadRequirement, BadPriority, BadMoment, BadLabel, BadKey, RequirementTooLong, OutOfMemory}
 use Rattle.rule_edits.specs.Reads.{Parses}
 use Rattle.import_csv.specs.declared.fault.ImportFault.{ImportFault}
 use Rattle.import_csv.specs.ImportRows.{Asked, Makes}
@@ -17,4 +17,3 @@ refused_row row asked BadMoment answer is says = absurd says
 refused_row row asked BadLabel answer is says = absurd says
 refused_row row asked BadKey answer is says = absurd says
 refused_row row asked RequirementTooLong answer is says = absurd says
-refused_row row asked NotBuilt answer is says = absurd says

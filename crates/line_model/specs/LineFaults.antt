@@ -14,8 +14,6 @@ pub data LineFault : Type 0 where
   bad_label : LineFault
   bad_key : LineFault
   requirement_too_long : LineFault
-  -- a form that isn't read yet
-  not_built : LineFault
   -- there was no memory to read the line, which says nothing of the line
   out_of_memory : LineFault
 
@@ -28,5 +26,4 @@ line_fault_text bad_moment = codes "refused line 4 BadMoment"
 line_fault_text bad_label = codes "refused line 5 BadLabel"
 line_fault_text bad_key = codes "refused line 6 BadKey"
 line_fault_text requirement_too_long = codes "refused line 7 RequirementTooLong"
-line_fault_text not_built = codes "refused line 8 NotBuilt"
 line_fault_text out_of_memory = []

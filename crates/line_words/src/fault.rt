@@ -25,8 +25,6 @@ pub enum LineFault {
     BadLabel,
     BadKey,
     RequirementTooLong,
-    /// The form isn't read yet.
-    NotBuilt,
     OutOfMemory,
 }
 
@@ -50,7 +48,6 @@ impl LineFault {
             LineFault::BadLabel => out.push_all(b"refused line 5 BadLabel"),
             LineFault::BadKey => out.push_all(b"refused line 6 BadKey"),
             LineFault::RequirementTooLong => out.push_all(b"refused line 7 RequirementTooLong"),
-            LineFault::NotBuilt => out.push_all(b"refused line 8 NotBuilt"),
             LineFault::OutOfMemory => {}
         }
     }

@@ -1,5 +1,5 @@
 -- Worked edits and assessments, computed by the definitions alone: what was worked out by hand.
-use Rattle.std.specs.Prelude.{◌≡◌, ℕ, List, [], ◌∷◌, map, true, false, replicate, refl, codes, Some, None, pos, negsuc}
+use Rattle.std.specs.Prelude.{◌≡◌, ℕ, List, [], ◌∷◌, map, true, false, replicate, refl, codes, Option, Some, None, pos, negsuc}
 use Rattle.std.specs.Fmt.{digits}
 use Rattle.req_tree.specs.Tree.{always}
 use Rattle.req_tree.specs.Facts.{no_facts}
@@ -13,7 +13,8 @@ use Rattle.policy_model.specs.Changes.{added_row, rows_after, touched_by}
 use Rattle.policy_model.specs.Refusals.{refusal, refused_by_rows}
 use Rattle.policy_model.specs.Edits.{does}
 use Rattle.policy_model.specs.History.{Event, tick, edit, fresh, tables_of, edit_answer, ask_answer}
-use Rattle.policy_model.specs.ReplyTexts.{verdict_text, answer_text, origin_on, fate_on}
+use Rattle.policy_model.specs.ReplyTexts as reply
+use Rattle.policy_model.specs.ReplyTexts.{Origin, Fate, verdict_text, answer_text}
 
 -- a rule for what is executed, which always means true
 abbrev dev_id : NewRow
@@ -54,6 +55,16 @@ subject = record { cdhash = replicate 20 17; identifier = codes "com.example.app
 abbrev asked : Ask
 asked = record { kind = execute; subject = Some subject; keep = true }
 
+-- where the verdict on an ask comes from while nothing is kept
+abbrev origin_on : Option Subject → Origin
+origin_on None = reply.unsigned
+origin_on (Some s) = reply.rules
+
+-- what becomes of its outcome then
+abbrev fate_on : Option Subject → Fate
+fate_on None = reply.not_offered
+fate_on (Some s) = reply.kept
+
 -- the reply to the ask after some events, from nothing
 abbrev replied : List Event → Ask → List ℕ
 replied h a = verdict_text (ask_answer (fresh no_facts) h a) (origin_on a.subject) (fate_on a.subject)
@@ -64,24 +75,24 @@ made edits = tables_of (fresh no_facts) (map edit edits)
 
 -- a disabled rule is latent, and lends the denial its label
 latent : replied (edit first_rule ∷ edit turned_off ∷ []) asked
-    ≡ codes "rejected at=0 rule=none latent=1 label=Dev%20ID override=none source=rules cache=off"
+    ≡ codes "rejected at=0 rule=none latent=1 label=Dev%20ID override=none source=rules cache=kept"
 unfolding digits places add_front content_text verdict_text
 latent = refl
 
 enabled_again : replied (edit first_rule ∷ edit turned_off ∷ edit turned_on ∷ []) asked
-    ≡ codes "accepted at=0 rule=1 latent=none label=Dev%20ID override=none source=rules cache=off"
+    ≡ codes "accepted at=0 rule=1 latent=none label=Dev%20ID override=none source=rules cache=kept"
 unfolding digits places add_front content_text verdict_text
 enabled_again = refl
 
 -- where assessments are switched off a denial is overridden
 overridden : replied (tick 5 ∷ edit (record { key = codes "s"; content = switch false }) ∷ []) asked
-    ≡ codes "accepted at=5 rule=none latent=none label=no%20matching%20rule override=security%20disabled source=rules cache=off"
+    ≡ codes "accepted at=5 rule=none latent=none label=no%20matching%20rule override=security%20disabled source=rules cache=kept"
 unfolding digits places add_front content_text verdict_text
 overridden = refl
 
 -- and an acceptance isn't
 not_overridden : replied (edit first_rule ∷ edit (record { key = codes "s"; content = switch false }) ∷ []) asked
-    ≡ codes "accepted at=0 rule=1 latent=none label=Dev%20ID override=none source=rules cache=off"
+    ≡ codes "accepted at=0 rule=1 latent=none label=Dev%20ID override=none source=rules cache=kept"
 unfolding digits places add_front content_text verdict_text
 not_overridden = refl
 
@@ -92,13 +103,13 @@ unsigned = refl
 
 -- of two rules of one priority the older decides
 older : replied (edit first_rule ∷ edit (record { key = codes "d"; content = add denied }) ∷ []) asked
-    ≡ codes "accepted at=0 rule=1 latent=none label=Dev%20ID override=none source=rules cache=off"
+    ≡ codes "accepted at=0 rule=1 latent=none label=Dev%20ID override=none source=rules cache=kept"
 unfolding digits places add_front content_text verdict_text
 older = refl
 
 -- a higher priority decides before an older rule
 higher : replied (edit first_rule ∷ edit (record { key = codes "d"; content = add (record denied { priority = pos 1 }) }) ∷ []) asked
-    ≡ codes "rejected at=0 rule=2 latent=none label=denied override=none source=rules cache=off"
+    ≡ codes "rejected at=0 rule=2 latent=none label=denied override=none source=rules cache=kept"
 unfolding digits places add_front content_text verdict_text
 higher = refl
 

@@ -1,6 +1,5 @@
 -- The texts of replies. This project's own.
 use Rattle.std.specs.Prelude.{ℕ, List, ◌++◌, Bool, Option, Some, None, if◌then◌else◌, codes, decimal}
-use Rattle.req_tree.specs.Subject.{Subject}
 use Rattle.line_text.specs.WordText.{word_text}
 use Rattle.policy_model.specs.Outcomes.{Verdict}
 use Rattle.policy_model.specs.Tables.{Answer, done, repeated, key_reused, no_rule, table_full, receipts_full, disable_full}
@@ -11,11 +10,6 @@ pub data Origin : Type 0 where
   cache : Origin
   unsigned : Origin
 
--- the origin of the verdict on an ask, while no outcome is kept
-abbrev pub origin_on : Option Subject → Origin
-origin_on None = unsigned
-origin_on (Some s) = rules
-
 -- the word behind source=
 abbrev pub origin_text : Origin → List ℕ
 origin_text rules = codes "rules"
@@ -24,8 +18,6 @@ origin_text unsigned = codes "unsigned"
 
 -- what became of the offer to keep the outcome
 pub data Fate : Type 0 where
-  -- nothing is kept yet
-  off : Fate
   -- no rule was asked, so there was nothing to offer
   not_offered : Fate
   kept : Fate
@@ -40,19 +32,8 @@ pub data Fate : Type 0 where
   -- as many are kept as may be
   full : Fate
 
--- the fate of an outcome of this origin, while no outcome is kept
-abbrev pub fate_by : Origin → Fate
-fate_by rules = off
-fate_by cache = not_offered
-fate_by unsigned = not_offered
-
--- the fate of the outcome of an ask, while no outcome is kept
-abbrev pub fate_on : Option Subject → Fate
-fate_on s = fate_by (origin_on s)
-
 -- the word behind cache=
 abbrev pub fate_text : Fate → List ℕ
-fate_text off = codes "off"
 fate_text not_offered = codes "none"
 fate_text kept = codes "kept"
 fate_text inhibited = codes "inhibited"

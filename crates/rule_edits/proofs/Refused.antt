@@ -3,7 +3,7 @@ use Rattle.std.proofs.Common.{ℕ, List, Ok, Err, refl}
 use Rattle.line_model.specs.Fronts.{Front}
 use Rattle.line_model.specs.Contents.{adds}
 use Rattle.line_words.specs.declared.fault.LineFault.{LineFault}
-use Rattle.line_words.specs.declared.fault.LineFault.TheVariants.{BadLine, BadRequirement, BadPriority, BadMoment, BadLabel, BadKey, RequirementTooLong, NotBuilt, OutOfMemory}
+use Rattle.line_words.specs.declared.fault.LineFault.TheVariants.{BadLine, BadRequirement, BadPriority, BadMoment, BadLabel, BadKey, RequirementTooLong, OutOfMemory}
 use Rattle.rule_edits.specs.Reads.{Parses, ReadsContent}
 
 -- words with this front and text are refused so
@@ -16,4 +16,3 @@ refused_text front text BadMoment says = absurd says
 refused_text front text BadLabel says = absurd says
 refused_text front text BadKey says = absurd says
 refused_text front text RequirementTooLong says = absurd says
-refused_text front text NotBuilt says = absurd says

@@ -7,7 +7,7 @@ use Rattle.req_tokens.specs.declared.fault.TextFault as text
 use Rattle.req_tokens.specs.declared.fault.TextFault.TheVariants as text_variants
 use Rattle.req_parser.specs.Failures.{FailsText}
 use Rattle.line_words.specs.declared.fault.LineFault.{LineFault}
-use Rattle.line_words.specs.declared.fault.LineFault.TheVariants.{BadLine, BadRequirement, BadPriority, BadMoment, BadLabel, BadKey, RequirementTooLong, NotBuilt, OutOfMemory}
+use Rattle.line_words.specs.declared.fault.LineFault.TheVariants.{BadLine, BadRequirement, BadPriority, BadMoment, BadLabel, BadKey, RequirementTooLong, OutOfMemory}
 use Rattle.rule_edits.specs.Reads.{Parses}
 use Rattle.store_reading.specs.Readings.{IsTreeText}
 
@@ -21,4 +21,3 @@ is_unread apart source BadMoment other parses t = parses
 is_unread apart source BadLabel other parses t = parses
 is_unread apart source BadKey other parses t = parses
 is_unread apart source RequirementTooLong other parses t = parses
-is_unread apart source NotBuilt other parses t = parses

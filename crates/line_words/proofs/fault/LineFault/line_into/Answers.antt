@@ -39,7 +39,3 @@ returns-in-BadKey-clause-text c =
 pub returns-in-RequirementTooLong-clause-text : goal.returns-in-RequirementTooLong-clause-text
 returns-in-RequirementTooLong-clause-text c =
     c.push_all-in-RequirementTooLong.ensures.text ∙ ap (λ fault. line_bytes c.args.out.now ++ line_fault_text (fault_of fault)) (sym c.in-RequirementTooLong.is)
-
-pub returns-in-NotBuilt-clause-text : goal.returns-in-NotBuilt-clause-text
-returns-in-NotBuilt-clause-text c =
-    c.push_all-in-NotBuilt.ensures.text ∙ ap (λ fault. line_bytes c.args.out.now ++ line_fault_text (fault_of fault)) (sym c.in-NotBuilt.is)
