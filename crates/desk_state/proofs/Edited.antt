@@ -21,9 +21,9 @@ use Rattle.policy_keeper.specs.Change.{change_of}
 use Rattle.policy_keeper.specs.Told.{Told}
 use Rattle.policy_keeper.specs.Mirror.{Mirrors, Follows}
 use Rattle.desk_state.specs.declared.answer.Answer as code
-use Rattle.desk_state.specs.declared.kept_fault.KeptFault.{KeptFault}
+use Rattle.desk_state.specs.declared.fault.EditFault.{EditFault}
 use Rattle.desk_state.specs.declared.ready.Ready.{Ready}
-use Rattle.desk_state.specs.Answer.{answer_of, IsDone}
+use Rattle.desk_state.specs.Answer.{answer_of, given, IsDone}
 use Rattle.desk_state.specs.Cache.{Cache, IsPurged, edited_cache, purged_so}
 use Rattle.desk_state.specs.Plan.{Leaves, count_in, rows_by, with_plan, carried_out}
 use Rattle.desk_state.specs.declared.plan.Plan.{Plan}
@@ -31,7 +31,7 @@ use Rattle.edit_receipts.specs.declared.receipts.Receipt as code_receipt
 use Rattle.edit_receipts.specs.Receipts.{receipt_of, receipts_of}
 use Rattle.std.proofs.lemmas.List.{map-append}
 use Rattle.desk_state.specs.Ready.{IsReadyFor}
-use Rattle.desk_state.specs.Keeping.{given_kept, IsEdited}
+use Rattle.desk_state.specs.Keeping.{IsEdited}
 use Rattle.desk_state.proofs.GoesOn.{new_does, kept_same}
 use Rattle.desk_state.proofs.Made.{leaves_count, plan_makes}
 use Rattle.desk_state.proofs.Purged.{parts_are, whole_edited, kept_so, new_so, refused_purges, plan_purges}
@@ -178,9 +178,9 @@ pub ready_takes : (t : Tables) (e : Edit) (ready : Ready) → kept t.receipts e.
 ready_takes t e ready unkept is = takes_change t e ready.plan.rows (change_of ready.change) unkept is.accepted is.planned.rows_are is.change_is
 
 -- after it was to be carried out
-pub carried_edited : MarksPurge → (old new : Opening) (e : Edit) (ready : Ready) → kept old.tables.receipts e.key ≡ None → IsReadyFor ready e old.tables → (r : Result code.Answer KeptFault) →
-    IfOk r (λ a. answer_of a ≡ done (change_of ready.change).number (change_of ready.change).touched) → OnErr r (given_kept r ≡ None) →
-    new.tables ≡ carried_out r ready.plan ready.receipt old.tables → cache_at new ≡ purged_so r ready.plan.rows (cache_at old) → new.now ≡ old.now → new.facts ≡ old.facts → IsEdited e old new (given_kept r)
+pub carried_edited : MarksPurge → (old new : Opening) (e : Edit) (ready : Ready) → kept old.tables.receipts e.key ≡ None → IsReadyFor ready e old.tables → (r : Result code.Answer EditFault) →
+    IfOk r (λ a. answer_of a ≡ done (change_of ready.change).number (change_of ready.change).touched) → OnErr r (given r ≡ None) →
+    new.tables ≡ carried_out r ready.plan ready.receipt old.tables → cache_at new ≡ purged_so r ready.plan.rows (cache_at old) → new.now ≡ old.now → new.facts ≡ old.facts → IsEdited e old new (given r)
 carried_edited marks old new e ready unkept is (Ok a) answers starved tables cache now facts =
     let t = old.tables in
     let n = length t.receipts + 1 in

@@ -16,7 +16,6 @@ use Rattle.object_model.specs.Purges.{first_touched, purged_counts}
 use Rattle.object_model.specs.Stands.{edited}
 use Rattle.object_model.specs.DropLaws.{MarksPurge}
 use Rattle.desk_state.specs.Plan.{Leaves}
-use Rattle.desk_state.proofs.GoesOn.{kept_same}
 use Rattle.desk_state.specs.Cache.{Cache, AreAtMost, purged_at, purged_as, edited_cache, IsPurged}
 
 -- bounds of the counts
@@ -74,10 +73,6 @@ refused_with marks (Some a) e t x = untouched marks x
 pub refused_purges : MarksPurge → (r : Option Answer) (e : Edit) (t : Tables) (x : Cache) → r ≡ refusal e.content t → IsPurged (at_new (refusal e.content t) e t) x x r
 refused_purges marks r e t x is = subst (λ y. IsPurged (at_new y e t) x x r) is (refused_with marks r e t x)
 
--- one that is made leaves what it makes
-pub made_purges : (e : Edit) (t : Tables) (x y : Cache) (a : Answer) → refusal e.content t ≡ None → y ≡ edited_cache (at_new None e t).touched x → IsPurged (at_new (refusal e.content t) e t) x y (Some a)
-made_purges e t x y a accepted is = is ∙ ap (λ r. edited_cache (at_new r e t).touched x) (sym accepted)
-
 -- under a key that is kept all stays
 pub kept_purges : MarksPurge → (t : Tables) (e : Edit) (r : Receipt) (x : Cache) → Some r ≡ kept t.receipts e.key → x ≡ edited_cache (does t e).touched x
 kept_purges marks t e r x k = untouched marks x ∙ ap (λ o. edited_cache (does_at o e t).touched x) k
@@ -103,7 +98,3 @@ answered_cache d x y (Some a) some is = is
 -- an answered edit leaves the edited desk
 pub whole_edited : (old new : Opening) (e : Edit) (g : Option Answer) → IsSome g → new.tables ≡ (does old.tables e).tables → new.facts ≡ old.facts → new.now ≡ old.now → IsPurged (does old.tables e) (old.entries, old.counts) (new.entries, new.counts) g → new ≡ edited e old
 whole_edited old new e g some t f n x = parts_are new.tables (does old.tables e).tables new.facts old.facts new.now old.now (new.entries, new.counts) (edited_cache (does old.tables e).touched (old.entries, old.counts)) t f n (answered_cache (does old.tables e) (old.entries, old.counts) (new.entries, new.counts) g some x)
-
--- under a key that is kept the desk is the edited one
-pub kept_whole : MarksPurge → (d : Opening) (e : Edit) (r : Receipt) → Some r ≡ kept d.tables.receipts e.key → d ≡ edited e d
-kept_whole marks d e r k = parts_are d.tables (does d.tables e).tables d.facts d.facts d.now d.now (d.entries, d.counts) (edited_cache (does d.tables e).touched (d.entries, d.counts)) (kept_same d.tables e r k) refl refl (kept_purges marks d.tables e r (d.entries, d.counts) k)

@@ -42,7 +42,7 @@ purged_so (Err fault) plan x = x
 abbrev pub edited_cache : List Row → Cache → Cache
 edited_cache touched x = (purged_by touched x.0, counts_with touched x.1)
 
--- an edit's answer leaves what the edit makes of it; where it is out of memory all is as before
+-- an edit's answer leaves what the edit makes of it; where none is given all is as before
 abbrev pub IsPurged : Effect → Cache → Cache → Option Answer → Type 0
 IsPurged effect old new None = new ≡ old
 IsPurged effect old new (Some a) = new ≡ edited_cache effect.touched old

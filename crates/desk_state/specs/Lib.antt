@@ -5,7 +5,6 @@ pub mod Cache
 pub mod Stands
 pub mod Begun
 pub mod Finished
-pub mod Accepted
 pub mod Status
 pub mod Keeping
 pub mod Ready

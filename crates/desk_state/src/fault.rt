@@ -6,11 +6,12 @@ ghost use Rattle.line_text.specs.declared.limits.TheConstants.{FRONT_LIMIT};
 
 use crate::answer::numbers_into;
 use authority_table::{PlanFault, RuleId};
+use policy_keeper::KeepFault;
 use req_tree::LineText;
 use std::alloc::AllocError;
 
-/// Why an edit was not made; the tables are as before. The first of these, in the order `KeyReused`, `NoRule` or
-/// `TableFull`, `ReceiptsFull`, `DisableFull`, `OutOfMemory`.
+/// Why an edit was not made; the desk is as before, and so is what the keeper tells. The first of these, in the order
+/// `KeyReused`, `NoRule` or `TableFull`, `ReceiptsFull`, `DisableFull`, and then `OutOfMemory` or `KeeperFault`.
 #[derive(Clone, Copy, Drop)]
 pub enum EditFault {
     /// Number 11: no rule is selected.
@@ -31,6 +32,8 @@ pub enum EditFault {
         /// The least number of such a rule.
         rule: RuleId,
     },
+    /// Number 16: the edit would have been accepted, and the keeper failed.
+    KeeperFault,
     /// There was no memory for the change or its receipt.
     OutOfMemory,
 }
@@ -47,11 +50,12 @@ impl From<AllocError> for EditFault {
 }
 
 impl From<PlanFault> for EditFault {
-    ghost use Rattle.std.specs.Prelude.{◌≡◌};
+    ghost use Rattle.std.specs.Prelude.{◌≡◌, ◌≢◌};
     ghost use Rattle.authority_table.specs.Prepared as table;
+    ghost use Rattle.desk_state.specs.declared.fault.EditFault.TheVariants.{KeeperFault};
     ghost use Rattle.desk_state.specs.Answer.{refusal_of};
 
-    ghost from_gives = { λ refused fault. refusal_of fault ≡ table.refusal_of refused };
+    ghost from_gives = { λ refused fault. (refusal_of fault ≡ table.refusal_of refused) × (fault ≢ KeeperFault) };
 
     fn from(refused: PlanFault) -> EditFault {
         match refused {
@@ -63,13 +67,27 @@ impl From<PlanFault> for EditFault {
     }
 }
 
+impl From<KeepFault> for EditFault {
+    ghost use Rattle.std.specs.Prelude.{◌≡◌};
+    ghost use Rattle.desk_state.specs.Keeping.{fault_after};
+
+    ghost from_gives = { λ failed fault. fault ≡ fault_after failed };
+
+    fn from(failed: KeepFault) -> EditFault {
+        match failed {
+            KeepFault::Failed => EditFault::KeeperFault,
+            KeepFault::OutOfMemory => EditFault::OutOfMemory,
+        }
+    }
+}
+
 impl EditFault {
-    ghost use Rattle.desk_state.specs.Answer.{refusal_of, given_text};
+    ghost use Rattle.desk_state.specs.Answer.{fault_text};
 
     /// Appends the refusal's line, without its end; nothing where it is out of memory.
     pub fn line_into(&self, out: &mut LineText)
         requires { length (line_bytes out.old) ≤ FRONT_LIMIT }
-        ensures text { line_bytes out.new ≡ line_bytes out.old ++ given_text (refusal_of self.now) }
+        ensures text { line_bytes out.new ≡ line_bytes out.old ++ fault_text self.now }
         ensures length { length (line_bytes out.new) ≤ length (line_bytes out.old) + 100 }
     {
         match self {
@@ -83,6 +101,7 @@ impl EditFault {
             EditFault::DisableFull { rule } => {
                 out.push_field(b"refused edit 15 DisableFull rule=", rule.get() as u64);
             }
+            EditFault::KeeperFault => out.push_all(b"refused edit 16 KeeperFault"),
             EditFault::OutOfMemory => {}
         }
     }

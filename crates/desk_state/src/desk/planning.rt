@@ -1,6 +1,6 @@
 //! What an edit under a new key will change, or why it is refused.
 
-ghost use Rattle.std.specs.Prelude.{◌≡◌, ◌<◌, length, Some, IfSome, IsSome, OnOk};
+ghost use Rattle.std.specs.Prelude.{◌≡◌, ◌<◌, length, Some, IfSome, IsSome, OnOk, IsErrOf};
 ghost use Rattle.policy_model.specs.declared.limits.TheConstants.{MOST_RECEIPTS};
 ghost use Rattle.policy_model.specs.Contents.{add};
 ghost use Rattle.policy_model.specs.Refusals.{refusal, refused_by_rows, none_selected};
@@ -21,6 +21,7 @@ impl Desk {
     /// What an edit of this content will change under a new key, or why it is refused.
     pub(super) fn plan(&self, alloc: Global, content: &Content) -> Result<Plan, EditFault>
         ensures plans { Plans result (content_of content.now) (tables self.now) }
+        ensures asked { IsErrOf result EditFault.KeeperFault → ⊥ }
         ensures few { OnOk result (length (tables self.now).receipts < MOST_RECEIPTS) }
     {
         if self.receipts.is_full() {
@@ -32,7 +33,8 @@ impl Desk {
 
     fn plan_content(&self, alloc: Global, content: &Content) -> Result<Plan, EditFault>
         requires few { length (tables self.now).receipts < MOST_RECEIPTS }
-        ensures { Plans result (content_of content.now) (tables self.now) }
+        ensures plans { Plans result (content_of content.now) (tables self.now) }
+        ensures asked { IsErrOf result EditFault.KeeperFault → ⊥ }
     {
         match content {
             Content::Add(rule) => self.plan_rule(alloc, rule),
@@ -52,7 +54,8 @@ impl Desk {
     /// A full table refuses before any memory is asked for.
     fn plan_rule(&self, alloc: Global, new: &NewRule) -> Result<Plan, EditFault>
         requires few { length (tables self.now).receipts < MOST_RECEIPTS }
-        ensures { Plans result (add (new_row new.now)) (tables self.now) }
+        ensures plans { Plans result (add (new_row new.now)) (tables self.now) }
+        ensures asked { IsErrOf result EditFault.KeeperFault → ⊥ }
     {
         if self.table.is_full() {
             Err(EditFault::TableFull)
@@ -71,7 +74,8 @@ impl Desk {
         change: RowChange,
     ) -> Result<Plan, EditFault>
         requires few { length (tables self.now).receipts < MOST_RECEIPTS }
-        ensures { Plans result (content_by selector.now change) (tables self.now) }
+        ensures plans { Plans result (content_by selector.now change) (tables self.now) }
+        ensures asked { IsErrOf result EditFault.KeeperFault → ⊥ }
     {
         let rows = self.table.plan_change(alloc, selector, change)?;
         Ok(self.plan_of(rows))
@@ -90,7 +94,8 @@ impl Desk {
     /// Why an edit is refused where as many were accepted as ever can be.
     fn refusal_when_full(&self, content: &Content) -> EditFault
         requires full { length (tables self.now).receipts ≡ MOST_RECEIPTS }
-        ensures { refusal_of result ≡ refusal (content_of content.now) (tables self.now) }
+        ensures is { refusal_of result ≡ refusal (content_of content.now) (tables self.now) }
+        ensures some { IsSome (refusal_of result) }
     {
         match self.refusal_by_rows(content) {
             Some(fault) => fault,

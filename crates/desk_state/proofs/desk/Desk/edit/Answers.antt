@@ -1,22 +1,19 @@
-use Rattle.std.proofs.Common.{[], ◌∷◌, ◌++◌, sym, subst}
-use Rattle.policy_model.specs.History.{edit}
+use Rattle.std.proofs.Common.{refl, sym, subst}
+use Rattle.std.specs.Prelude.{IsNone}
+use Rattle.policy_model.specs.History.{edit_failed}
 use Rattle.rule_edits.specs.Edit.{edit_of}
 use Rattle.object_model.specs.Stands as model
-use Rattle.desk_state.specs.Stands.{tables, cache_of, plain}
 use Rattle.desk_state.specs.Answer.{given}
-use Rattle.desk_state.proofs.GoesOn.{done_tables}
-use Rattle.desk_state.proofs.Purged.{kept_whole, new_so, whole_edited}
+use Rattle.desk_state.specs.Stands.{plain}
+use Rattle.desk_state.proofs.Edited.{stands_edited, same_unedited}
 use Rattle.desk_state.proofs.desk.Desk.edit.Goals as goal
 
-pub returns-in-Some-clause-stands : goal.returns-in-Some-clause-stands
-returns-in-Some-clause-stands c = λ o h some s.
-    subst (λ x. model.Stands x o (h ++ edit (edit_of c.args.edit.now) ∷ [])) (sym (kept_whole c.first_ranks_purge.ensures.marks (plain c.args.self.now) (edit_of c.args.edit.now) _ c.in-Some.ensures))
-    (c.a_desk_goes_on_standing.ensures.edit (plain c.args.self.now) o h (edit_of c.args.edit.now) s)
+pub returns-clause-stands : goal.returns-clause-stands
+returns-clause-stands g c = λ o h some s.
+    stands_edited c.a_desk_goes_on_standing.ensures.edit (plain c.args.self.now) (plain c.make.new.self) o h (edit_of c.args.edit.now) (given c.make.result) c.make.ensures.edited some s
 
-pub returns-in-None-clause-stands : goal.returns-in-None-clause-stands
-returns-in-None-clause-stands c = λ o h some s.
-    subst (λ x. model.Stands x o (h ++ edit (edit_of c.args.edit.now) ∷ []))
-    (sym (whole_edited (plain c.args.self.now) (plain c.accept.new.self) (edit_of c.args.edit.now) (given c.accept.result) some
-    (done_tables (tables c.args.self.now) (edit_of c.args.edit.now) _ _ c.in-None.ensures c.accept.ensures.done.done some) c.accept.ensures.done.facts c.accept.ensures.done.moment
-    (new_so (tables c.args.self.now) (edit_of c.args.edit.now) (cache_of c.args.self.now) _ _ c.in-None.ensures c.accept.ensures.cache)))
-    (c.a_desk_goes_on_standing.ensures.edit (plain c.args.self.now) o h (edit_of c.args.edit.now) s)
+pub returns-clause-failed : goal.returns-clause-failed
+returns-clause-failed g c = λ o h failed s.
+    let none : IsNone (given c.make.result) = subst (λ r. IsNone (given r)) (sym failed) refl in
+    c.a_desk_goes_on_standing.ensures.quiet (plain c.make.new.self) o h (edit_failed (edit_of c.args.edit.now)) refl
+    (subst (λ x. model.Stands x o h) (sym (same_unedited (plain c.args.self.now) (plain c.make.new.self) (edit_of c.args.edit.now) (given c.make.result) c.make.ensures.edited none)) s)

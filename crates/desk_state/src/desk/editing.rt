@@ -1,124 +1,125 @@
-//! Edits on a desk whose tables a keeper keeps.
+//! Edits of a desk, which a keeper keeps.
 
 ghost use Rattle.std.specs.Prelude.{◌≡◌, ◌<◌, ◌≤◌, ◌++◌, ◌∷◌, [], List, length, Some, None, IfOk, OnErr, IfSome, IsSome, IsNone, IsErrOf};
 ghost use Rattle.gk_io.specs.Faults.{Rose};
 ghost use Rattle.policy_model.specs.declared.limits.TheConstants.{MOST_RECEIPTS};
-ghost use Rattle.policy_model.specs.Edits.{does, kept};
+ghost use Rattle.policy_model.specs.Edits.{kept};
+ghost use Rattle.policy_model.specs.Edits as policy_edits;
 ghost use Rattle.policy_model.specs.Tables.{done};
 ghost use Rattle.policy_model.specs.History.{Event, Opening, HasOwnIds, edit_answer};
 ghost use Rattle.policy_model.specs.History as event;
+ghost use Rattle.authority_table.specs.Rule.{rows_of};
 ghost use Rattle.rule_edits.specs.Edit.{edit_of};
 ghost use Rattle.edit_receipts.specs.Receipts.{receipt_of};
 ghost use Rattle.store_model.specs.Kept.{IsKept};
 ghost use Rattle.store_model.specs.Change.{Takes};
 ghost use Rattle.policy_keeper.specs.Change.{change_of};
 ghost use Rattle.policy_keeper.specs.Mirror.{Mirrors, Follows};
-ghost use Rattle.desk_state.specs.Answer.{answer_of};
-ghost use Rattle.desk_state.specs.Keeping.{given_kept, IsEdited};
+ghost use Rattle.desk_state.specs.Answer.{answer_of, given};
+ghost use Rattle.desk_state.specs.Keeping.{IsEdited};
 ghost use Rattle.desk_state.specs.Ready.{IsReadyFor, MakesReady};
-ghost use Rattle.desk_state.specs.Plan.{IsFor, with_plan, carried_out};
+ghost use Rattle.desk_state.specs.Plan.{IsFor, rows_by, with_plan, carried_out, next_receipt};
 ghost use Rattle.desk_state.specs.Cache.{purged_so};
 ghost use Rattle.desk_state.specs.Stands.{tables, moment_of, facts_of, cache_of, plain, Stands};
 
 use crate::answer::Answer;
-use crate::desk::{Desk, at_kept, commit};
+use crate::desk::Desk;
 use crate::fault::EditFault;
 use crate::fits::edit_fits;
 use crate::keeping::keep_receipt;
-use crate::kept_fault::KeptFault;
 use crate::plan::Plan;
 use crate::purging::purge;
 use crate::ready::Ready;
+use authority_table::{Prepared, Table};
 use edit_laws::laws::a_content_fits_a_line;
 use edit_receipts::Receipt;
 use object_model::laws::{a_desk_goes_on_standing, first_ranks_purge};
 use policy_keeper::laws::mirrored_tables_can_change;
 use policy_keeper::{Change, Keeper};
 use policy_model::laws::ids_stay_own;
-use rule_edits::Edit;
-use std::alloc::Global;
+use rule_edits::{Edit, content_is, content_text};
+use std::alloc::{AllocError, Global};
 use store_model::laws::{change_is_edit, stored_tables};
 
 impl Desk {
     /// Makes an edit and has the keeper keep it, or says that it was made before, or refuses it. All memory is taken
     /// before the keeper is asked, and nothing can fail once it has kept the edit.
-    pub fn edit_kept<K: Keeper>(
+    pub fn edit<K: Keeper>(
         &mut self,
         alloc: Global,
         keeper: &mut K,
         edit: &Edit,
-    ) -> Result<Answer, KeptFault>
+    ) -> Result<Answer, EditFault>
         requires mirrors { Mirrors (K.told keeper.old) (tables self.old) }
-        ensures edited { IsEdited (edit_of edit.now) (plain self.old) (plain self.new) (given_kept result) }
+        ensures edited { IsEdited (edit_of edit.now) (plain self.old) (plain self.new) (given result) }
         ensures mirrors { Mirrors (K.told keeper.new) (tables self.new) }
         ensures telling { IsSome (K.told keeper.new) → IsSome (K.told keeper.old) }
 
         // After any history of this desk.
-        ensures legal { (o : Opening) (h : List Event) → Stands self.old o h → IfSome (given_kept result) (λ answer. answer ≡ edit_answer o h (edit_of edit.now)) }
-        ensures stands { (o : Opening) (h : List Event) → IsSome (given_kept result) → Stands self.old o h → Stands self.new o (h ++ event.edit (edit_of edit.now) ∷ []) }
-        ensures failed { (o : Opening) (h : List Event) → IsErrOf result KeptFault.KeeperFault → Stands self.old o h → Stands self.new o (h ++ event.edit_failed (edit_of edit.now) ∷ []) }
-        ensures unchanged { (o : Opening) (h : List Event) → IsNone (given_kept result) → Stands self.old o h → Stands self.new o h }
+        ensures legal { (o : Opening) (h : List Event) → Stands self.old o h → IfSome (given result) (λ answer. answer ≡ edit_answer o h (edit_of edit.now)) }
+        ensures stands { (o : Opening) (h : List Event) → IsSome (given result) → Stands self.old o h → Stands self.new o (h ++ event.edit (edit_of edit.now) ∷ []) }
+        ensures failed { (o : Opening) (h : List Event) → IsErrOf result EditFault.KeeperFault → Stands self.old o h → Stands self.new o (h ++ event.edit_failed (edit_of edit.now) ∷ []) }
+        ensures unchanged { (o : Opening) (h : List Event) → IsNone (given result) → Stands self.old o h → Stands self.new o h }
 
         // A failure of the keeper shows in its count, which never falls, and nothing else moves it.
         ensures later { K.faults keeper.old ≤ K.faults keeper.new }
-        ensures cause { IsErrOf result KeptFault.KeeperFault → Rose (K.faults keeper.old) (K.faults keeper.new) }
-        ensures steady { (IsErrOf result KeptFault.KeeperFault → ⊥) → K.faults keeper.new ≡ K.faults keeper.old }
+        ensures cause { IsErrOf result EditFault.KeeperFault → Rose (K.faults keeper.old) (K.faults keeper.new) }
+        ensures steady { (IsErrOf result EditFault.KeeperFault → ⊥) → K.faults keeper.new ≡ K.faults keeper.old }
     {
         a_desk_goes_on_standing();
-        self.make_kept(alloc, keeper, edit)
+        self.make(alloc, keeper, edit)
     }
 
-    fn make_kept<K: Keeper>(
+    fn make<K: Keeper>(
         &mut self,
         alloc: Global,
         keeper: &mut K,
         edit: &Edit,
-    ) -> Result<Answer, KeptFault>
+    ) -> Result<Answer, EditFault>
         requires mirrors { Mirrors (K.told keeper.old) (tables self.old) }
-        ensures edited { IsEdited (edit_of edit.now) (plain self.old) (plain self.new) (given_kept result) }
+        ensures edited { IsEdited (edit_of edit.now) (plain self.old) (plain self.new) (given result) }
         ensures mirrors { Mirrors (K.told keeper.new) (tables self.new) }
         ensures telling { IsSome (K.told keeper.new) → IsSome (K.told keeper.old) }
         ensures later { K.faults keeper.old ≤ K.faults keeper.new }
-        ensures cause { IsErrOf result KeptFault.KeeperFault → Rose (K.faults keeper.old) (K.faults keeper.new) }
-        ensures steady { (IsErrOf result KeptFault.KeeperFault → ⊥) → K.faults keeper.new ≡ K.faults keeper.old }
+        ensures cause { IsErrOf result EditFault.KeeperFault → Rose (K.faults keeper.old) (K.faults keeper.new) }
+        ensures steady { (IsErrOf result EditFault.KeeperFault → ⊥) → K.faults keeper.new ≡ K.faults keeper.old }
     {
         first_ranks_purge();
         match self.receipts.find(&edit.key) {
-            Some(receipt) => kept_already(receipt, edit),
-            None => self.accept_kept(alloc, keeper, edit),
+            Some(receipt) => at_kept(receipt, edit),
+            None => self.accept(alloc, keeper, edit),
         }
     }
 
     /// Makes an edit under a new key, or refuses it.
-    fn accept_kept<K: Keeper>(
+    fn accept<K: Keeper>(
         &mut self,
         alloc: Global,
         keeper: &mut K,
         edit: &Edit,
-    ) -> Result<Answer, KeptFault>
+    ) -> Result<Answer, EditFault>
         requires new { kept (tables self.old).receipts (edit_of edit.now).key ≡ None }
         requires mirrors { Mirrors (K.told keeper.old) (tables self.old) }
-        ensures edited { IsEdited (edit_of edit.now) (plain self.old) (plain self.new) (given_kept result) }
+        ensures edited { IsEdited (edit_of edit.now) (plain self.old) (plain self.new) (given result) }
         ensures mirrors { Mirrors (K.told keeper.new) (tables self.new) }
         ensures telling { IsSome (K.told keeper.new) → IsSome (K.told keeper.old) }
         ensures later { K.faults keeper.old ≤ K.faults keeper.new }
-        ensures cause { IsErrOf result KeptFault.KeeperFault → Rose (K.faults keeper.old) (K.faults keeper.new) }
-        ensures steady { (IsErrOf result KeptFault.KeeperFault → ⊥) → K.faults keeper.new ≡ K.faults keeper.old }
+        ensures cause { IsErrOf result EditFault.KeeperFault → Rose (K.faults keeper.old) (K.faults keeper.new) }
+        ensures steady { (IsErrOf result EditFault.KeeperFault → ⊥) → K.faults keeper.new ≡ K.faults keeper.old }
     {
         ids_stay_own();
         first_ranks_purge();
         stored_tables();
         edit_fits(edit);
-        match self.ready(alloc, edit) {
-            Err(fault) => Err(KeptFault::Edit(fault)),
-            Ok(ready) => self.carry_out_kept(alloc, keeper, ready),
-        }
+        let ready = self.ready(alloc, edit)?;
+        self.carry_out(alloc, keeper, ready)
     }
 
     /// All that an edit under a new key needs, or why it is refused.
     fn ready(&self, alloc: Global, edit: &Edit) -> Result<Ready, EditFault>
         requires new { kept (tables self.now).receipts (edit_of edit.now).key ≡ None }
-        ensures { MakesReady result (edit_of edit.now) (tables self.now) }
+        ensures ready { MakesReady result (edit_of edit.now) (tables self.now) }
+        ensures asked { IsErrOf result EditFault.KeeperFault → ⊥ }
     {
         let plan = self.plan(alloc, &edit.content)?;
         let receipt = self.receipt(alloc, edit, plan.count())?;
@@ -135,13 +136,26 @@ impl Desk {
         })
     }
 
+    /// The receipt of an edit that is about to be made.
+    fn receipt(&self, alloc: Global, edit: &Edit, rules: u32) -> Result<Receipt, AllocError>
+        ensures { IfOk result (λ receipt. receipt_of receipt ≡ next_receipt (edit_of edit.now) rules (tables self.now)) }
+    {
+        let content = content_text(alloc, &edit.content)?;
+        Ok(Receipt {
+            number: self.receipts.count() + 1,
+            key: edit.key.copied(),
+            content,
+            rules,
+        })
+    }
+
     /// Makes an edit that is ready, and has the keeper keep it, or neither.
-    fn carry_out_kept<K: Keeper>(
+    fn carry_out<K: Keeper>(
         &mut self,
         alloc: Global,
         keeper: &mut K,
         ready: Ready,
-    ) -> Result<Answer, KeptFault>
+    ) -> Result<Answer, EditFault>
         requires few { length (tables self.old).receipts < MOST_RECEIPTS }
         requires new { kept (tables self.old).receipts (receipt_of ready.receipt).key ≡ None }
         requires fits { IsFor ready.plan.rows (tables self.old).rows }
@@ -150,7 +164,7 @@ impl Desk {
         requires takes { Takes (tables self.old) (change_of ready.change) }
         requires mirrors { Mirrors (K.told keeper.old) (tables self.old) }
         ensures answers { IfOk result (λ answer. answer_of answer ≡ done (change_of ready.change).number (change_of ready.change).touched) }
-        ensures starved { OnErr result (given_kept result ≡ None) }
+        ensures starved { OnErr result (given result ≡ None) }
         ensures tables { tables self.new ≡ carried_out result ready.plan ready.receipt (tables self.old) }
         ensures cache { cache_of self.new ≡ purged_so result ready.plan.rows (cache_of self.old) }
         ensures moment { moment_of self.new ≡ moment_of self.old }
@@ -158,8 +172,8 @@ impl Desk {
         ensures follows { Follows (K.told keeper.new) (tables self.old) (change_of ready.change) result }
         ensures telling { IsSome (K.told keeper.new) → IsSome (K.told keeper.old) }
         ensures later { K.faults keeper.old ≤ K.faults keeper.new }
-        ensures cause { IsErrOf result KeptFault.KeeperFault → Rose (K.faults keeper.old) (K.faults keeper.new) }
-        ensures steady { (IsErrOf result KeptFault.KeeperFault → ⊥) → K.faults keeper.new ≡ K.faults keeper.old }
+        ensures cause { IsErrOf result EditFault.KeeperFault → Rose (K.faults keeper.old) (K.faults keeper.new) }
+        ensures steady { (IsErrOf result EditFault.KeeperFault → ⊥) → K.faults keeper.new ≡ K.faults keeper.old }
     {
         mirrored_tables_can_change();
         change_is_edit();
@@ -175,24 +189,39 @@ impl Desk {
             number: change.number,
             rules: change.touched,
         };
-        match keep_receipt(&mut self.receipts, alloc, keeper, receipt, &change) {
-            Err(fault) => Err(KeptFault::from(fault)),
-            Ok(()) => {
-                purge(&mut self.objects, &rows);
-                commit(&mut self.table, rows);
-                self.enabled = enabled;
-                Ok(answer)
-            }
-        }
+        keep_receipt(&mut self.receipts, alloc, keeper, receipt, &change)?;
+        purge(&mut self.objects, &rows);
+        commit(&mut self.table, rows);
+        self.enabled = enabled;
+        Ok(answer)
     }
 }
 
-ghost use Rattle.policy_model.specs.Edits as policy_edits;
+/// Makes a change of the rules, if there is one.
+fn commit(table: &mut Table, rows: Option<Prepared>)
+    requires { IsFor rows (rows_of table.old) }
+    ensures { rows_of table.new ≡ rows_by rows (rows_of table.old) }
+{
+    match rows {
+        None => {}
+        Some(rows) => table.commit(rows),
+    }
+}
 
 /// The answer to an edit under a key that is kept.
-fn kept_already(receipt: &Receipt, edit: &Edit) -> Result<Answer, KeptFault>
-    ensures answers { given_kept result ≡ Some (policy_edits.at_kept (receipt_of receipt.now) (edit_of edit.now)) }
-    ensures asked { IsErrOf result KeptFault.KeeperFault → ⊥ }
+fn at_kept(receipt: &Receipt, edit: &Edit) -> Result<Answer, EditFault>
+    ensures answers { given result ≡ Some (policy_edits.at_kept (receipt_of receipt.now) (edit_of edit.now)) }
+    ensures asked { IsErrOf result EditFault.KeeperFault → ⊥ }
 {
-    Ok(at_kept(receipt, edit)?)
+    let number = receipt.number;
+    let rules = receipt.rules;
+    if content_is(&edit.content, receipt.content.as_slice()) {
+        Ok(Answer {
+            repeated: true,
+            number,
+            rules,
+        })
+    } else {
+        Err(EditFault::KeyReused { number, rules })
+    }
 }
