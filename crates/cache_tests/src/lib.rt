@@ -4,4 +4,6 @@
 #[cfg(test)]
 mod kept;
 #[cfg(test)]
+mod room;
+#[cfg(test)]
 mod steps;
