@@ -14,6 +14,7 @@ use Rattle.authority_table.specs.Outcome.{outcome_of}
 use Rattle.object_model.specs.Objects.{is_unexpired, is_for}
 use Rattle.object_model.specs.Tickets.{Ticket, judged}
 use Rattle.object_model.specs.Stands.{Stands, ticket_on}
+use Rattle.object_model.specs.OfDesk.{offered_by, settled_by}
 use Rattle.object_model.specs.StandsLaws.{KnownAnswers, BeginGives}
 use Rattle.desk_state.specs.declared.desk.Desk.{Desk}
 use Rattle.desk_state.specs.declared.finished.Finished.{Finished}
@@ -24,7 +25,7 @@ use Rattle.desk_state.specs.Verdict.{verdict_of, origin_of}
 use Rattle.desk_state.specs.Stands as desk
 use Rattle.desk_state.specs.Begun.{known_on}
 use Rattle.desk_state.specs.Finished.{IsFinished, finished_so}
-use Rattle.desk_state.specs.Judged.{IsJudged, IsJudgedAt, IsJudgedOn, IsLooked, LooksAfter, IsSettled, offered_by, settled_by, settled_so}
+use Rattle.desk_state.specs.Judged.{IsJudged, IsJudgedAt, IsJudgedOn, IsLooked, LooksAfter, IsSettled, settled_so}
 use Rattle.desk_state.proofs.Assessed.{missed_any, none_found, known_after}
 
 -- the outcome of what was found is that of all rules

@@ -7,3 +7,5 @@ mod Edited
 mod Loads
 mod Keeps
 mod Judges
+mod OfDesk
+mod StaysFresh

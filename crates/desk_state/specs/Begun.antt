@@ -1,5 +1,5 @@
 -- How an assessment begins.
-use Rattle.std.specs.Prelude.{◌≡◌, ◌∷◌, [], ◌++◌, List, length, false, Option, Some, None, option_map, codes}
+use Rattle.std.specs.Prelude.{◌≡◌, ⊤, ◌∷◌, [], ◌++◌, List, length, false, Option, Some, None, option_map, codes}
 use Rattle.std.specs.List.{filter, find}
 use Rattle.req_tree.specs.Subject.{Subject}
 use Rattle.policy_model.specs.Rules.{Kind}
@@ -12,6 +12,7 @@ use Rattle.object_model.specs.Kept.{objects_of}
 use Rattle.object_model.specs.Tickets as model
 use Rattle.object_model.specs.Tickets.{IsTicketOf}
 use Rattle.object_model.specs.Stands.{ticket_on}
+use Rattle.object_model.specs.OfDesk.{IsTicketOfDesk}
 use Rattle.object_model.specs.Origins.{origin_with}
 use Rattle.desk_ticket.specs.Ticket.{ticket_of}
 use Rattle.desk_state.specs.declared.begun.Begun as code
@@ -39,7 +40,12 @@ abbrev pub IsBegun : Opening → Ask → code.Begun → Type 0
 IsBegun d a (Known verdict) = known_on d a.kind a.subject ≡ Some (verdict_of verdict, origin_of verdict.origin)
 IsBegun d a (Pending ticket) = (known_on d a.kind a.subject ≡ None) × IsTicketOn d a (ticket_of ticket)
 
--- the same after a history: the legal answer and its origin, or the ticket of the place of the ask
+-- the ticket that an ask has, if it has one, is of a desk that holds this
+abbrev pub IsBegunOfDesk : Opening → code.Begun → Type 0
+IsBegunOfDesk d (Known verdict) = ⊤
+IsBegunOfDesk d (Pending ticket) = IsTicketOfDesk d (ticket_of ticket)
+
+-- how an ask begins after a history: the legal answer and its origin, or the ticket of the place of the ask
 abbrev pub BeginsAfter : Opening → List Event → Ask → code.Begun → Type 0
 BeginsAfter o h a (Known verdict) = (verdict_of verdict ≡ ask_answer o h a) × (origin_of verdict.origin ≡ origin_with (objects_of o h) a.kind a.subject)
 BeginsAfter o h a (Pending ticket) = IsTicketOf (ticket_of ticket) o (h ++ ask a ∷ []) (length h)

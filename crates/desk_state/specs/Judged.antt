@@ -1,19 +1,16 @@
 -- An assessment that is judged as it begins.
-use Rattle.std.specs.Prelude.{◌≡◌, ℕ, List, [], ◌∷◌, ◌++◌, length, Bool, not, ◌||◌, nat_lt, nat_le, Option, Some, None, Result, Ok, Err}
-use Rattle.std.specs.List.{filter, list_any}
+use Rattle.std.specs.Prelude.{◌≡◌, ⊤, ℕ, List, [], ◌∷◌, ◌++◌, length, Option, Some, None, Result, Ok, Err}
 use Rattle.req_tree.specs.Subject.{Subject, subject_of}
-use Rattle.policy_model.specs.Rules.{Kind, is_below}
-use Rattle.policy_model.specs.Outcomes.{Ask, Outcome, verdict_by}
+use Rattle.policy_model.specs.Outcomes.{Ask, verdict_by}
 use Rattle.policy_model.specs.ReplyTexts.{rules}
 use Rattle.policy_model.specs.History.{Event, Opening, ask, ask_answer}
 use Rattle.authority_table.specs.Kind.{kind_of}
 use Rattle.authority_table.specs.Outcome.{outcome_of}
-use Rattle.object_model.specs.declared.limits.TheConstants.{MOST_ENTRIES}
-use Rattle.object_model.specs.Objects.{Offered, is_unexpired, is_for, ends, inhibits, by_rules}
-use Rattle.object_model.specs.Past.{count_of}
+use Rattle.object_model.specs.Objects.{Offered}
 use Rattle.object_model.specs.Kept.{objects_of}
 use Rattle.object_model.specs.Tickets.{Ticket, IsTicketOf, judged}
-use Rattle.object_model.specs.Stands.{ticket_on, swept_offer}
+use Rattle.object_model.specs.Stands.{ticket_on}
+use Rattle.object_model.specs.OfDesk.{IsOfDesk, offered_by, settled_by}
 use Rattle.object_model.specs.Origins.{origin_with}
 use Rattle.object_cache.specs.Offered.{offered_of}
 use Rattle.desk_state.specs.declared.finished.Finished.{Finished}
@@ -52,16 +49,14 @@ abbrev pub LooksAfter : Opening → List Event → Ask → Looked → Type 0
 LooksAfter o h a (Known verdict) = (verdict_of verdict ≡ ask_answer o h a) × (origin_of verdict.origin ≡ origin_with (objects_of o h) a.kind a.subject)
 LooksAfter o h a (Open j) = IsJudgedAt j o (h ++ ask a ∷ []) (length h)
 
--- what becomes of an outcome that is offered on a desk that holds this
-abbrev pub offered_by : Kind → Subject → Bool → ℕ → Outcome → Opening → Offered
-offered_by kind subject keep mark outcome d =
-    by_rules (not keep || inhibits outcome) (nat_lt mark (count_of kind d.counts)) (not (is_below d.now (ends outcome)))
-    (list_any (is_for kind subject) (filter (is_unexpired d.now) d.entries)) (nat_le MOST_ENTRIES (length (filter (is_unexpired d.now) d.entries)))
+-- what was judged is of a desk that holds this
+abbrev pub IsJudgedOfDesk : Opening → code.Judged → Type 0
+IsJudgedOfDesk d j = IsOfDesk d (kind_of j.kind) (subject_of j.subject) j.at j.mark (outcome_of j.outcome)
 
--- what the desk holds afterwards
-abbrev pub settled_by : Kind → Subject → Bool → ℕ → Outcome → Opening → Opening
-settled_by kind subject keep mark outcome d =
-    record d { entries = swept_offer d.now (offered_by kind subject keep mark outcome d) (record { kind = kind; subject = subject; outcome = outcome }) d.entries }
+-- what was judged of an ask, if anything was, is of a desk that holds this
+abbrev pub IsLookedOfDesk : Opening → Looked → Type 0
+IsLookedOfDesk d (Known verdict) = ⊤
+IsLookedOfDesk d (Open j) = IsJudgedOfDesk d j
 
 -- what becomes of what was judged
 abbrev pub offered_on : code.Judged → Opening → Offered

@@ -9,12 +9,23 @@ use Rattle.policy_keeper.specs.declared.fault.KeepFault.TheVariants as keep
 use Rattle.desk_state.specs.declared.fault.EditFault.{EditFault}
 use Rattle.desk_state.specs.declared.fault.EditFault.TheVariants.{KeeperFault, OutOfMemory}
 use Rattle.desk_state.specs.Answer.{IsDone}
-use Rattle.desk_state.specs.Cache.{IsPurged}
+use Rattle.edit_receipts.specs.declared.receipts.Receipt as code
+use Rattle.desk_state.specs.declared.plan.Plan.{Plan}
+use Rattle.desk_state.specs.Plan.{with_plan}
+use Rattle.desk_state.specs.Cache.{purged_as, IsPurged}
 
 -- what an edit's fault is where the keeper didn't make the change
 abbrev pub fault_after : KeepFault → EditFault
 fault_after keep.Failed = KeeperFault
 fault_after keep.OutOfMemory = OutOfMemory
+
+-- what a desk that held this holds with a planned change and its receipt
+abbrev pub desk_with_plan : Plan → code.Receipt → Opening → Opening
+desk_with_plan plan receipt d = record d {
+  tables = with_plan plan receipt d.tables;
+  entries = (purged_as plan.rows (d.entries, d.counts)).0;
+  counts = (purged_as plan.rows (d.entries, d.counts)).1;
+}
 
 -- what an edit makes of a desk that holds this: the answer, the tables and what is kept of assessments are the
 -- definition's; where none is given all is as before, and the edit would have been accepted

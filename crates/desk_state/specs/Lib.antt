@@ -2,6 +2,7 @@ pub mod Answer
 pub mod Verdict
 pub mod Plan
 pub mod Cache
+pub mod Holds
 pub mod Stands
 pub mod Begun
 pub mod Finished

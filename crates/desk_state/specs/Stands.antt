@@ -9,7 +9,7 @@ use Rattle.policy_model.specs.History.{Event, Opening}
 use Rattle.desk_state.specs.declared.desk.Desk.{Desk}
 use Rattle.edit_receipts.specs.Receipts.{receipts_of}
 use Rattle.object_model.specs.Stands as model
-use Rattle.object_cache.specs.Objects.{held, counts}
+use Rattle.desk_state.specs.Holds.{plain_of}
 use Rattle.desk_state.specs.Cache.{Cache, cache_in}
 
 -- the rules, the receipts and the switch of a desk
@@ -26,7 +26,7 @@ facts_of d = table_facts (arc_value d.facts)
 
 -- what a desk holds, as plain data
 abbrev pub plain : Desk → Opening
-plain d = record { tables = tables d; facts = facts_of d; now = moment_of d; entries = held d.objects; counts = counts d.objects }
+plain d = plain_of (tables d) (facts_of d) (moment_of d) d.objects
 
 -- the desk is where the history h leads from the sound opening o
 abbrev pub Stands : Desk → Opening → List Event → Type 0

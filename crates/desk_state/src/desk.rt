@@ -1,11 +1,16 @@
 //! The desk: its rules, its receipts and its moment.
 
 ghost use Rattle.std.specs.Prelude.{◌≡◌, ◌++◌, [], ◌∷◌, List, max, length};
+ghost use Rattle.std.specs.Arc.{arc_value};
+ghost use Rattle.code_facts.specs.Tables.{table_facts};
 ghost use Rattle.authority_table.specs.Rule.{rows_of};
 ghost use Rattle.policy_model.specs.History.{HasOwnIds};
 ghost use Rattle.edit_receipts.specs.Receipts.{receipts_of};
 ghost use Rattle.object_model.specs.declared.limits.TheConstants.{MOST_ENTRIES};
+ghost use Rattle.object_model.specs.Once.{fresh_desk_once};
+ghost use Rattle.object_model.specs.Stands.{IsFreshDesk};
 ghost use Rattle.object_cache.specs.Objects.{room_of, counts};
+ghost use Rattle.desk_state.specs.Holds.{plain_of};
 ghost use Rattle.desk_state.specs.Cache.{AreAtMost};
 ghost use Rattle.store_model.specs.Kept.{IsKept};
 
@@ -21,7 +26,9 @@ use authority_table::{Moment, Table};
 use code_facts::FactTable;
 use edit_receipts::Receipts;
 use object_cache::Objects;
-use object_model::laws::a_desk_goes_on_standing;
+use object_model::laws::{
+    a_desk_goes_on_standing, a_desk_is_fresh, what_was_judged_is_of_the_desk,
+};
 use policy_model::laws::history_goes_on;
 use std::sync::Arc;
 
@@ -42,13 +49,15 @@ pub struct Desk {
     ghost kept: { ∥ IsKept (record { rows = rows_of table; receipts = receipts_of receipts; enabled = enabled }) ∥₁ },
     ghost room: { room_of objects ≡ MOST_ENTRIES },
     ghost marks: { AreAtMost (length receipts) (counts objects) },
+    ghost fresh: { IsFreshDesk (plain_of (record { rows = rows_of table; receipts = receipts_of receipts; enabled = enabled }) (table_facts (arc_value facts)) moment objects) } by { fresh_desk_once (plain_of (record { rows = rows_of table; receipts = receipts_of receipts; enabled = enabled }) (table_facts (arc_value facts)) moment objects) },
 }
 
 impl Desk {
     ghost use Rattle.policy_model.specs.History.{Event, Opening, now_of};
     ghost use Rattle.policy_model.specs.History as event;
     ghost use Rattle.desk_state.specs.Status.{IsStatus};
-    ghost use Rattle.desk_state.specs.Stands.{tables, moment_of, facts_of, Stands};
+    ghost use Rattle.object_model.specs.OfDesk.{KeepsOf};
+    ghost use Rattle.desk_state.specs.Stands.{tables, moment_of, facts_of, plain, Stands};
 
     /// Hands in a moment; gives the greatest one so far.
     pub fn tick(&mut self, at: Moment) -> Moment
@@ -56,6 +65,7 @@ impl Desk {
         ensures gives { result ≡ moment_of self.new }
         ensures tables { tables self.new ≡ tables self.old }
         ensures facts { facts_of self.new ≡ facts_of self.old }
+        ensures of_desk { KeepsOf (plain self.old) (plain self.new) }
 
         // After any history of this desk.
         ensures stands { (o : Opening) (h : List Event) → Stands self.old o h → Stands self.new o (h ++ event.tick at ∷ []) }
@@ -63,6 +73,8 @@ impl Desk {
     {
         history_goes_on();
         a_desk_goes_on_standing();
+        a_desk_is_fresh();
+        what_was_judged_is_of_the_desk();
         self.moment = later(self.moment, at);
         self.moment
     }

@@ -9,12 +9,13 @@ ghost use Rattle.authority_table.specs.Kind.{kind_of};
 ghost use Rattle.authority_table.specs.Outcome.{outcome_of};
 ghost use Rattle.object_model.specs.Objects.{is_for};
 ghost use Rattle.object_model.specs.Tickets.{IsTicketOf, judged};
+ghost use Rattle.object_model.specs.OfDesk.{IsTicketOfDesk, KeepsOf};
 ghost use Rattle.object_cache.specs.Entry.{entry_found};
 ghost use Rattle.object_cache.specs.Objects.{live_at};
 ghost use Rattle.assess.specs.Ask.{ask_of};
 ghost use Rattle.desk_ticket.specs.Ticket.{ticket_of};
 ghost use Rattle.desk_state.specs.Stands.{plain, Stands};
-ghost use Rattle.desk_state.specs.Begun.{IsBegun, BeginsAfter, IsTicketOn};
+ghost use Rattle.desk_state.specs.Begun.{IsBegun, IsBegunOfDesk, BeginsAfter, IsTicketOn};
 ghost use Rattle.desk_state.specs.Finished.{IsFinished, FinishesAfter, finished_so};
 
 use crate::answering::{answered, unsigned};
@@ -26,7 +27,9 @@ use assess::Ask;
 use assess::laws::snapshots_judge_alike;
 use authority_table::{Kind, Outcome};
 use desk_ticket::Ticket;
-use object_model::laws::{a_desk_goes_on_standing, a_ticket_is_enough};
+use object_model::laws::{
+    a_desk_goes_on_standing, a_desk_is_fresh, a_ticket_is_enough, what_was_judged_is_of_the_desk,
+};
 use req_tree::Subject;
 use std::alloc::{AllocError, Global};
 use std::sync::Arc;
@@ -36,12 +39,14 @@ impl Desk {
     /// it, and else a ticket holds what its rules were.
     pub fn begin(&self, alloc: Global, ask: &Ask) -> Result<Begun, AllocError>
         ensures begun { IfOk result (λ begun. IsBegun (plain self.now) (ask_of ask.now) begun) }
+        ensures of_desk { IfOk result (λ begun. IsBegunOfDesk (plain self.now) begun) }
 
         // After any history of this desk.
         ensures after { (o : Opening) (h : List Event) → Stands self.now o h → IfOk result (λ begun. BeginsAfter o h (ask_of ask.now) begun) }
         ensures stands { (o : Opening) (h : List Event) → Stands self.now o h → Stands self.now o (h ++ event.ask (ask_of ask.now) ∷ []) }
     {
         a_desk_goes_on_standing();
+        what_was_judged_is_of_the_desk();
         snapshots_judge_alike();
         match &ask.subject {
             None => Ok(Begun::Known(unsigned(self.enabled, self.moment))),
@@ -100,8 +105,10 @@ impl Desk {
     /// outcome is offered to be kept. Where there is no memory, nothing changes.
     pub fn finish(&mut self, ticket: Ticket, outcome: Outcome) -> Result<Finished, AllocError>
         requires outcome { outcome_of outcome ≡ judged (ticket_of ticket) }
+        requires of_desk { IsTicketOfDesk (plain self.old) (ticket_of ticket) }
         ensures finished { IfOk result (λ finished. IsFinished (plain self.old) (ticket_of ticket) finished) }
         ensures leaves { plain self.new ≡ finished_so result (ticket_of ticket) (plain self.old) }
+        ensures of_desk { KeepsOf (plain self.old) (plain self.new) }
 
         // After any history of this desk that has the ticket's ask.
         ensures after { (o : Opening) (h : List Event) (k : ℕ) → Stands self.old o h → IsTicketOf (ticket_of ticket) o h k
@@ -112,14 +119,17 @@ impl Desk {
     {
         a_desk_goes_on_standing();
         a_ticket_is_enough();
+        what_was_judged_is_of_the_desk();
         self.finish_now(ticket, outcome)
     }
 
     fn finish_now(&mut self, ticket: Ticket, outcome: Outcome) -> Result<Finished, AllocError>
         requires outcome { outcome_of outcome ≡ judged (ticket_of ticket) }
+        requires of_desk { IsTicketOfDesk (plain self.old) (ticket_of ticket) }
         ensures finished { IfOk result (λ finished. IsFinished (plain self.old) (ticket_of ticket) finished) }
         ensures leaves { plain self.new ≡ finished_so result (ticket_of ticket) (plain self.old) }
     {
+        a_desk_is_fresh();
         let verdict = answered(ticket.is_enabled(), ticket.at(), &outcome, Origin::Rules);
         let since = ticket.mark();
         let inhibit = !ticket.keeps();

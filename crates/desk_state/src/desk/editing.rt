@@ -16,7 +16,9 @@ ghost use Rattle.store_model.specs.Change.{Takes};
 ghost use Rattle.policy_keeper.specs.Change.{change_of};
 ghost use Rattle.policy_keeper.specs.Mirror.{Mirrors, Follows};
 ghost use Rattle.desk_state.specs.Answer.{answer_of, given};
-ghost use Rattle.desk_state.specs.Keeping.{IsEdited};
+ghost use Rattle.object_model.specs.OfDesk.{KeepsOf};
+ghost use Rattle.object_model.specs.Stands.{IsFreshDesk};
+ghost use Rattle.desk_state.specs.Keeping.{IsEdited, desk_with_plan};
 ghost use Rattle.desk_state.specs.Ready.{IsReadyFor, MakesReady};
 ghost use Rattle.desk_state.specs.Plan.{IsFor, rows_by, with_plan, carried_out, next_receipt};
 ghost use Rattle.desk_state.specs.Cache.{purged_so};
@@ -33,7 +35,9 @@ use crate::ready::Ready;
 use authority_table::{Prepared, Table};
 use edit_laws::laws::a_content_fits_a_line;
 use edit_receipts::Receipt;
-use object_model::laws::{a_desk_goes_on_standing, first_ranks_purge};
+use object_model::laws::{
+    a_desk_goes_on_standing, a_desk_is_fresh, first_ranks_purge, what_was_judged_is_of_the_desk,
+};
 use policy_keeper::laws::mirrored_tables_can_change;
 use policy_keeper::{Change, Keeper};
 use policy_model::laws::ids_stay_own;
@@ -54,6 +58,7 @@ impl Desk {
         ensures edited { IsEdited (edit_of edit.now) (plain self.old) (plain self.new) (given result) }
         ensures mirrors { Mirrors (K.told keeper.new) (tables self.new) }
         ensures telling { IsSome (K.told keeper.new) → IsSome (K.told keeper.old) }
+        ensures of_desk { KeepsOf (plain self.old) (plain self.new) }
 
         // After any history of this desk.
         ensures legal { (o : Opening) (h : List Event) → Stands self.old o h → IfSome (given result) (λ answer. answer ≡ edit_answer o h (edit_of edit.now)) }
@@ -67,6 +72,7 @@ impl Desk {
         ensures steady { (IsErrOf result EditFault.KeeperFault → ⊥) → K.faults keeper.new ≡ K.faults keeper.old }
     {
         a_desk_goes_on_standing();
+        what_was_judged_is_of_the_desk();
         self.make(alloc, keeper, edit)
     }
 
@@ -108,6 +114,7 @@ impl Desk {
         ensures steady { (IsErrOf result EditFault.KeeperFault → ⊥) → K.faults keeper.new ≡ K.faults keeper.old }
     {
         ids_stay_own();
+        a_desk_is_fresh();
         first_ranks_purge();
         stored_tables();
         edit_fits(edit);
@@ -161,6 +168,7 @@ impl Desk {
         requires fits { IsFor ready.plan.rows (tables self.old).rows }
         requires own { HasOwnIds (with_plan ready.plan ready.receipt (tables self.old)) }
         requires kept { ∥ IsKept (with_plan ready.plan ready.receipt (tables self.old)) ∥₁ }
+        requires fresh { IsFreshDesk (desk_with_plan ready.plan ready.receipt (plain self.old)) }
         requires takes { Takes (tables self.old) (change_of ready.change) }
         requires mirrors { Mirrors (K.told keeper.old) (tables self.old) }
         ensures answers { IfOk result (λ answer. answer_of answer ≡ done (change_of ready.change).number (change_of ready.change).touched) }

@@ -9,10 +9,11 @@ ghost use Rattle.policy_model.specs.History as event;
 ghost use Rattle.authority_table.specs.Kind.{kind_of};
 ghost use Rattle.object_model.specs.Tickets.{Ticket, IsTicketOf};
 ghost use Rattle.object_model.specs.Stands.{ticket_on};
+ghost use Rattle.object_model.specs.OfDesk.{KeepsOf};
 ghost use Rattle.assess.specs.Ask.{ask_of};
 ghost use Rattle.desk_state.specs.Stands.{plain, tables, facts_of, Stands};
 ghost use Rattle.desk_state.specs.Finished.{IsFinished, FinishesAfter, finished_so};
-ghost use Rattle.desk_state.specs.Judged.{IsJudged, IsLooked, LooksAfter, IsSettled, settled_so};
+ghost use Rattle.desk_state.specs.Judged.{IsJudged, IsJudgedOfDesk, IsLooked, IsLookedOfDesk, LooksAfter, IsSettled, settled_so};
 
 use crate::answering::{answered, unsigned};
 use crate::deciding::decided_by;
@@ -24,7 +25,9 @@ use assess::Ask;
 use authority_table::Kind;
 use fact_values::Facts;
 use object_cache::Entry;
-use object_model::laws::{a_desk_goes_on_standing, a_ticket_is_enough};
+use object_model::laws::{
+    a_desk_goes_on_standing, a_desk_is_fresh, a_ticket_is_enough, what_was_judged_is_of_the_desk,
+};
 use policy_model::laws::one_outcome;
 use req_tree::Subject;
 use std::alloc::AllocError;
@@ -34,12 +37,14 @@ impl Desk {
     /// the code has no usable signature or an outcome is kept for it.
     pub fn judge(&self, ask: &Ask) -> Looked
         ensures looked { IsLooked (plain self.now) (ask_of ask.now) result }
+        ensures of_desk { IsLookedOfDesk (plain self.now) result }
 
         // After any history of this desk.
         ensures after { (o : Opening) (h : List Event) → Stands self.now o h → LooksAfter o h (ask_of ask.now) result }
         ensures stands { (o : Opening) (h : List Event) → Stands self.now o h → Stands self.now o (h ++ event.ask (ask_of ask.now) ∷ []) }
     {
         a_desk_goes_on_standing();
+        what_was_judged_is_of_the_desk();
         self.look(ask)
     }
 
@@ -93,9 +98,11 @@ impl Desk {
     /// Finishes what was judged: the verdict is as of its beginning, and its outcome is offered to be kept. Where there
     /// is no memory, nothing changes.
     pub fn settle(&mut self, judged: Judged) -> Result<Finished, AllocError>
+        requires { IsJudgedOfDesk (plain self.old) judged }
         ensures settled { (t : Ticket) → IsJudged judged t → IfOk result (λ finished. IsFinished (plain self.old) t finished) }
         ensures leaves { (t : Ticket) → IsJudged judged t → plain self.new ≡ finished_so result t (plain self.old) }
         ensures tables { tables self.new ≡ tables self.old }
+        ensures of_desk { KeepsOf (plain self.old) (plain self.new) }
 
         // After any history of this desk that has the ask.
         ensures after { (o : Opening) (h : List Event) (k : ℕ) (t : Ticket) → Stands self.old o h → IsTicketOf t o h k → IsJudged judged t
@@ -106,13 +113,16 @@ impl Desk {
     {
         a_desk_goes_on_standing();
         a_ticket_is_enough();
+        what_was_judged_is_of_the_desk();
         self.settle_now(judged)
     }
 
     fn settle_now(&mut self, judged: Judged) -> Result<Finished, AllocError>
+        requires { IsJudgedOfDesk (plain self.old) judged }
         ensures settled { IfOk result (λ finished. IsSettled (plain self.old) judged finished) }
         ensures leaves { plain self.new ≡ settled_so result judged (plain self.old) }
     {
+        a_desk_is_fresh();
         let verdict = answered(judged.enabled, judged.at, &judged.outcome, Origin::Rules);
         let since = judged.mark;
         let inhibit = !judged.keep;

@@ -5,8 +5,10 @@ use Rattle.policy_model.specs.History.{ask}
 use Rattle.authority_table.specs.Kind.{kind_of}
 use Rattle.assess.specs.Ask.{ask_of}
 use Rattle.desk_state.specs.Stands.{plain}
-use Rattle.desk_state.specs.Begun.{IsBegun, BeginsAfter}
+use Rattle.desk_state.specs.Begun.{IsBegun, IsBegunOfDesk, BeginsAfter}
 use Rattle.desk_state.proofs.Assessed.{ok_map, begins_after}
+use Rattle.policy_model.specs.Outcomes.{Ask}
+use Rattle.desk_state.proofs.OfDesk.{begun_of_desk}
 use Rattle.desk_state.proofs.desk.Desk.begin.Goals as goal
 
 pub returns-in-None-clause-stands : goal.returns-in-None-clause-stands
@@ -22,3 +24,10 @@ returns-in-Some-clause-after c = λ o h s.
     (begins_after c.a_desk_goes_on_standing.ensures.known c.a_desk_goes_on_standing.ensures.begin c.snapshots_judge_alike.ensures.alike (plain c.args.self.now) o h
     (record { kind = kind_of c.args.ask.now.kind; subject = Some (subject_of c.in-Some.subject); keep = c.args.ask.now.keep }) c.args.self.now.own_ids s)
     c.begin_signed.ensures)
+
+pub returns-in-Some-clause-of_desk : goal.returns-in-Some-clause-of_desk
+returns-in-Some-clause-of_desk c =
+    let a : Ask = record { kind = kind_of c.args.ask.now.kind; subject = Some (subject_of c.in-Some.subject); keep = c.args.ask.now.keep } in
+    ok_map (IsBegun (plain c.args.self.now) a) (IsBegunOfDesk (plain c.args.self.now)) c.begin_signed.result
+    (begun_of_desk c.what_was_judged_is_of_the_desk.ensures.begin c.snapshots_judge_alike.ensures.alike (plain c.args.self.now) a c.args.self.now.own_ids)
+    c.begin_signed.ensures

@@ -4,10 +4,11 @@ use Rattle.policy_keeper.specs.declared.fault.KeepFault.TheVariants.{Failed}
 use Rattle.std.proofs.Math.Logic.{∥∥₁_map}
 use Rattle.std.proofs.lemmas.Result.{err_from_is_err_and}
 use Rattle.policy_keeper.specs.Change.{change_of}
-use Rattle.desk_state.specs.Stands.{tables}
+use Rattle.desk_state.specs.Stands.{tables, plain}
 use Rattle.policy_keeper.proofs.Mirrored.{follows}
 use Rattle.desk_state.proofs.Edited.{kept_with}
 use Rattle.desk_state.proofs.Keeps.{applies_telling}
+use Rattle.desk_state.proofs.StaysFresh.{carried_fresh}
 use Rattle.desk_state.proofs.desk.Desk.carry_out.Goals as goal
 
 pub keep_receipt-requires-clause-can : goal.keep_receipt-requires-clause-can
@@ -17,6 +18,9 @@ keep_receipt-requires-clause-can g c =
 pub invariant_of-self-2-clause-kept : goal.invariant_of-self-2-clause-kept
 invariant_of-self-2-clause-kept g c =
     kept_with c.args.ready.plan c.args.ready.receipt (tables c.args.self.now) c.args.self.now.receipts c.keep_receipt.new.receipts _ refl c.commit.ensures c.in_ok-keep_receipt.ensures.ok c.requires.kept
+
+pub invariant_of-self-2-clause-fresh : goal.invariant_of-self-2-clause-fresh
+invariant_of-self-2-clause-fresh g c = carried_fresh c.args.ready.plan c.args.ready.receipt (plain c.args.self.now) _ _ c.commit.ensures c.purge.ensures.cache c.requires.fresh
 
 pub returns-clause-follows : goal.returns-clause-follows
 returns-clause-follows g c =

@@ -6,6 +6,7 @@ use Rattle.object_model.specs.Stands as model
 use Rattle.desk_state.specs.Answer.{given}
 use Rattle.desk_state.specs.Stands.{plain}
 use Rattle.desk_state.proofs.Edited.{stands_edited, same_unedited}
+use Rattle.desk_state.proofs.OfDesk.{edited_keeps}
 use Rattle.desk_state.proofs.desk.Desk.edit.Goals as goal
 
 pub returns-clause-stands : goal.returns-clause-stands
@@ -17,3 +18,6 @@ returns-clause-failed g c = λ o h failed s.
     let none : IsNone (given c.make.result) = subst (λ r. IsNone (given r)) (sym failed) refl in
     c.a_desk_goes_on_standing.ensures.quiet (plain c.make.new.self) o h (edit_failed (edit_of c.args.edit.now)) refl
     (subst (λ x. model.Stands x o h) (sym (same_unedited (plain c.args.self.now) (plain c.make.new.self) (edit_of c.args.edit.now) (given c.make.result) c.make.ensures.edited none)) s)
+
+pub returns-clause-of_desk : goal.returns-clause-of_desk
+returns-clause-of_desk g c = edited_keeps c.what_was_judged_is_of_the_desk.ensures.edit (plain c.args.self.now) (plain c.make.new.self) (edit_of c.args.edit.now) (given c.make.result) c.make.ensures.edited

@@ -1,6 +1,7 @@
 use Rattle.desk_ticket.specs.Ticket.{ticket_of}
 use Rattle.desk_state.specs.Stands.{plain}
 use Rattle.desk_state.proofs.Assessed.{ok_map, finishes_after, stands_finished, stands_unfinished}
+use Rattle.desk_state.proofs.OfDesk.{finished_keeps}
 use Rattle.desk_state.proofs.desk.Desk.finish.Goals as goal
 
 pub returns-clause-after : goal.returns-clause-after
@@ -13,3 +14,6 @@ returns-clause-stands c = λ o h k s of.
 
 pub returns-clause-unchanged : goal.returns-clause-unchanged
 returns-clause-unchanged c = λ o h s. stands_unfinished (plain c.args.self.now) _ o h (ticket_of c.args.ticket) c.finish_now.result c.finish_now.ensures.leaves s
+
+pub returns-clause-of_desk : goal.returns-clause-of_desk
+returns-clause-of_desk c = finished_keeps c.what_was_judged_is_of_the_desk.ensures.entries (plain c.args.self.now) _ (ticket_of c.args.ticket) c.finish_now.result c.finish_now.ensures.leaves

@@ -1,6 +1,7 @@
 use Rattle.raw_tables.specs.Raw.{plain_tables}
 use Rattle.store_reading.specs.Tables.{tables_of}
 use Rattle.desk_state.proofs.Loads.{loaded_stands}
+use Rattle.desk_state.proofs.StaysFresh.{none_fresh}
 use Rattle.desk_state.proofs.desk.Desk.of_rows.Goals as goal
 
 pub invariant_of-result-clause-own_ids : goal.invariant_of-result-clause-own_ids
@@ -18,3 +19,6 @@ returns-clause-stands c =
     let t = tables_of c.in_ok-stored.stored in
     let kept = c.stored_rows_mean_tables.ensures.kept (plain_tables c.args.raw.now) t c.in_ok-stored.ensures.accepted c.in_ok-stored.ensures.meant in
     loaded_stands c.a_desk_goes_on_standing.ensures.opening _ c.zero.ensures c.new.ensures.holds c.new.ensures.counted (c.kept_tables.ensures.ids t kept) (c.kept_tables.ensures.keys t kept)
+
+pub invariant_of-result-clause-fresh : goal.invariant_of-result-clause-fresh
+invariant_of-result-clause-fresh c = none_fresh _ _ _ _ c.new.ensures.holds

@@ -3,6 +3,7 @@ use Rattle.policy_model.specs.History.{Opening}
 use Rattle.desk_state.specs.Stands.{plain}
 use Rattle.desk_state.proofs.Assessed.{ok_map, finishes_after, stands_finished}
 use Rattle.desk_state.proofs.Judges.{finished_is, settled_is, settled_tables, stands_unsettled}
+use Rattle.desk_state.proofs.OfDesk.{settled_keeps}
 use Rattle.desk_state.proofs.desk.Desk.settle.Goals as goal
 
 pub returns-clause-settled : goal.returns-clause-settled
@@ -26,3 +27,6 @@ returns-clause-stands c = λ o h k t s at of.
 
 pub returns-clause-unchanged : goal.returns-clause-unchanged
 returns-clause-unchanged c = λ o h s. stands_unsettled (plain c.args.self.now) _ o h c.args.judged c.settle_now.result c.settle_now.ensures.leaves s
+
+pub returns-clause-of_desk : goal.returns-clause-of_desk
+returns-clause-of_desk c = settled_keeps c.what_was_judged_is_of_the_desk.ensures.entries (plain c.args.self.now) _ c.args.judged c.settle_now.result c.settle_now.ensures.leaves
