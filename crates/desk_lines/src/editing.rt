@@ -1,6 +1,6 @@
 //! An edit that a line asks for, made by a desk whose tables a keeper keeps, with its reply.
 
-ghost use Rattle.std.specs.Prelude.{◌≡◌, ◌≤◌, [], List, length, true, false, Ok, OnOk, OnErr, is_some};
+ghost use Rattle.std.specs.Prelude.{◌≡◌, ◌≢◌, ◌≤◌, [], List, length, Ok, OnOk, OnErr};
 ghost use Rattle.line_text.specs.LineText.{line_bytes};
 ghost use Rattle.policy_model.specs.History.{Opening};
 ghost use Rattle.session_model.specs.Slots.{State};
@@ -8,13 +8,14 @@ ghost use Rattle.session_model.specs.Lines as model;
 ghost use Rattle.line_session.specs.declared.limits.TheConstants.{REPLY_LIMIT};
 ghost use Rattle.rule_edits.specs.Edit.{edit_of};
 ghost use Rattle.policy_keeper.specs.Mirror.{Mirrors};
-ghost use Rattle.desk_state.specs.Answer.{refusal_of, given_text};
+ghost use Rattle.desk_state.specs.declared.fault.EditFault.TheVariants.{OutOfMemory};
+ghost use Rattle.desk_state.specs.Answer.{fault_text};
 ghost use Rattle.desk_state.specs.Stands.{tables, Stands};
 ghost use Rattle.desk_lines.specs.declared.slots.OpenSlot as code;
 ghost use Rattle.desk_lines.specs.Answered.{HasReplied};
 ghost use Rattle.desk_lines.specs.Failures.{Keeps};
 
-use desk_state::{Desk, EditFault, KeptFault};
+use desk_state::{Desk, EditFault};
 use line_text::LineText;
 use object_model::laws::a_ticket_is_enough;
 use policy_keeper::Keeper;
@@ -39,16 +40,12 @@ pub fn make<K: Keeper>(
         (((o : Opening) (s : State) → Stands desk.old o s.history → Stands desk.new o s.history) × (K.faults keeper.new ≡ K.faults keeper.old)) }
 {
     a_ticket_is_enough();
-    match desk.edit_kept(alloc, keeper, edit) {
+    match desk.edit(alloc, keeper, edit) {
         Ok(answer) => {
             answer.line_into(out);
             Ok(())
         }
-        Err(KeptFault::KeeperFault) => {
-            out.push_all(b"refused edit 16 KeeperFault");
-            Ok(())
-        }
-        Err(KeptFault::Edit(fault)) => refuse(fault, out),
+        Err(fault) => refuse(fault, out),
     }
 }
 
@@ -56,19 +53,14 @@ pub fn make<K: Keeper>(
 fn refuse(fault: EditFault, out: &mut LineText) -> Result<(), AllocError>
     requires { line_bytes out.old ≡ [] }
     ensures room { length (line_bytes out.new) ≤ REPLY_LIMIT }
-    ensures refused { OnOk result ((is_some (refusal_of fault) ≡ true) × (line_bytes out.new ≡ given_text (refusal_of fault))) }
-    ensures starved { OnErr result (is_some (refusal_of fault) ≡ false) }
+    ensures told { OnOk result ((fault ≢ OutOfMemory) × (line_bytes out.new ≡ fault_text fault)) }
+    ensures starved { OnErr result (fault ≡ OutOfMemory) }
 {
-    if is_refusal(&fault) {
-        fault.line_into(out);
-        Ok(())
-    } else {
-        Err(AllocError)
+    match fault {
+        EditFault::OutOfMemory => Err(AllocError),
+        _ => {
+            fault.line_into(out);
+            Ok(())
+        }
     }
-}
-
-fn is_refusal(fault: &EditFault) -> bool
-    ensures { result ≡ is_some (refusal_of fault.now) }
-{
-    !matches!(fault, EditFault::OutOfMemory)
 }

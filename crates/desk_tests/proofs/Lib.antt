@@ -1,1 +1,2 @@
 mod AlwaysText
+mod StillMirrored

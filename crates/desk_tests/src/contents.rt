@@ -1,8 +1,9 @@
 //! What each kind of edit does, as it is printed.
 use crate::edits::{answers, assesses};
-use crate::made::{ask, ask_of, by_id, by_label, fresh_desk, rule_of, subject};
+use crate::kept_desk::{KeptDesk, fresh_desk};
+use crate::made::{ask, ask_of, by_id, by_label, rule_of, subject};
 use authority_table::{Kind, Moment, Outcome, Selector};
-use desk_state::{Begun, Content, Desk, DeskStatus, Edit, EditKey};
+use desk_state::{Begun, Content, DeskStatus, Edit, EditKey};
 use rule_edits::{content_is, content_text};
 use std::alloc::Global;
 use std::test::Fail;
@@ -35,7 +36,13 @@ fn switch(on: bool) -> Option<Content> {
 }
 
 // the edit of this content under this key is answered by this line
-fn says(alloc: Global, desk: &mut Desk, key: &[u8], content: Option<Content>, text: &[u8]) -> bool {
+fn says(
+    alloc: Global,
+    desk: &mut KeptDesk,
+    key: &[u8],
+    content: Option<Content>,
+    text: &[u8],
+) -> bool {
     match (EditKey::of(key), content) {
         (Some(key), Some(content)) => {
             let edit = Edit { key, content };
@@ -47,7 +54,7 @@ fn says(alloc: Global, desk: &mut Desk, key: &[u8], content: Option<Content>, te
 }
 
 // three rules of one label, one for each kind
-fn has_three_kinds(alloc: Global, desk: &mut Desk) -> bool {
+fn has_three_kinds(alloc: Global, desk: &mut KeptDesk) -> bool {
     says(
         alloc,
         desk,
@@ -70,7 +77,7 @@ fn has_three_kinds(alloc: Global, desk: &mut Desk) -> bool {
 }
 
 // what the rules say now of code of this kind, which nothing is kept of
-fn judges(alloc: Global, desk: &Desk, kind: Kind) -> Option<bool> {
+fn judges(alloc: Global, desk: &KeptDesk, kind: Kind) -> Option<bool> {
     match desk.begin(alloc, &ask_of(kind, subject())).ok()? {
         Begun::Known(_) => None,
         Begun::Pending(ticket) => match ticket.judge() {
@@ -80,11 +87,11 @@ fn judges(alloc: Global, desk: &Desk, kind: Kind) -> Option<bool> {
     }
 }
 
-fn accepts(alloc: Global, desk: &Desk, kind: Kind) -> bool {
+fn accepts(alloc: Global, desk: &KeptDesk, kind: Kind) -> bool {
     judges(alloc, desk, kind) == Some(true)
 }
 
-fn rejects(alloc: Global, desk: &Desk, kind: Kind) -> bool {
+fn rejects(alloc: Global, desk: &KeptDesk, kind: Kind) -> bool {
     judges(alloc, desk, kind) == Some(false)
 }
 
@@ -96,7 +103,7 @@ fn has(status: DeskStatus, enabled: bool, rules: u32, receipts: u32, now: u64) -
         && status.now.get() == now
 }
 
-fn ticks(desk: &mut Desk, seconds: u64) -> bool {
+fn ticks(desk: &mut KeptDesk, seconds: u64) -> bool {
     match Moment::of(seconds) {
         None => false,
         Some(moment) => desk.tick(moment).get() == seconds,
@@ -104,7 +111,7 @@ fn ticks(desk: &mut Desk, seconds: u64) -> bool {
 }
 
 // counts go up by one and down to 0, in all kinds at once and in one
-fn counted(alloc: Global, desk: &mut Desk) -> bool {
+fn counted(alloc: Global, desk: &mut KeptDesk) -> bool {
     has_three_kinds(alloc, desk)
         && says(
             alloc,
@@ -144,7 +151,7 @@ fn counted(alloc: Global, desk: &mut Desk) -> bool {
 }
 
 // a selector names rules by number or label, in one kind or in any
-fn selected(alloc: Global, desk: &mut Desk) -> bool {
+fn selected(alloc: Global, desk: &mut KeptDesk) -> bool {
     has_three_kinds(alloc, desk)
         && says(
             alloc,
@@ -192,7 +199,7 @@ fn selected(alloc: Global, desk: &mut Desk) -> bool {
 }
 
 // rules end at the moment that an edit gives them, and one without an end stays
-fn expiring(alloc: Global, desk: &mut Desk) -> bool {
+fn expiring(alloc: Global, desk: &mut KeptDesk) -> bool {
     has_three_kinds(alloc, desk)
         && says(
             alloc,
@@ -217,7 +224,7 @@ fn expiring(alloc: Global, desk: &mut Desk) -> bool {
         && has(desk.status(), true, 3, 5, 2_000)
 }
 
-fn overrides(alloc: Global, desk: &mut Desk) -> bool {
+fn overrides(alloc: Global, desk: &mut KeptDesk) -> bool {
     assesses(
         alloc,
         desk,
@@ -226,7 +233,7 @@ fn overrides(alloc: Global, desk: &mut Desk) -> bool {
     )
 }
 
-fn denies(alloc: Global, desk: &mut Desk) -> bool {
+fn denies(alloc: Global, desk: &mut KeptDesk) -> bool {
     assesses(
         alloc,
         desk,
@@ -236,7 +243,7 @@ fn denies(alloc: Global, desk: &mut Desk) -> bool {
 }
 
 // a desk that is switched off overrides a denial, and still names the rule
-fn switched(alloc: Global, desk: &mut Desk) -> bool {
+fn switched(alloc: Global, desk: &mut KeptDesk) -> bool {
     says(
         alloc,
         desk,
@@ -273,7 +280,7 @@ fn all_but_last(bytes: &[u8]) -> &[u8] {
 }
 
 // a label of any bytes is told from every other one
-fn labelled(alloc: Global, desk: &mut Desk) -> bool {
+fn labelled(alloc: Global, desk: &mut KeptDesk) -> bool {
     let low = bytes_from(0);
     let high = bytes_from(128);
     says(

@@ -1,9 +1,8 @@
 //! What a desk answers to edits and assessments, as it is printed.
-use crate::made::{ask, edit, fresh_desk, new_rule, subject};
+use crate::kept_desk::{KeptDesk, fresh_desk};
+use crate::made::{ask, edit, new_rule, subject};
 use authority_table::Moment;
-use desk_state::{
-    Answer, Ask, Begun, Content, Desk, Edit, EditFault, Finished, Judged, Looked, Ticket,
-};
+use desk_state::{Answer, Ask, Begun, Content, Edit, EditFault, Judged, Looked};
 use req_tree::LineText;
 use rule_edits::{content_is, content_text};
 use std::alloc::Global;
@@ -19,22 +18,17 @@ pub fn answers(answer: &Result<Answer, EditFault>, text: &[u8]) -> bool {
 }
 
 /// Whether this is the line of an assessment that is finished as it begins.
-pub fn assesses(alloc: Global, desk: &mut Desk, ask: &Ask, text: &[u8]) -> bool {
+pub fn assesses(alloc: Global, desk: &mut KeptDesk, ask: &Ask, text: &[u8]) -> bool {
     let mut out = LineText::new();
     match desk.begin(alloc, ask) {
         Err(_) => return false,
         Ok(Begun::Known(verdict)) => verdict.line_into(None, &mut out),
-        Ok(Begun::Pending(ticket)) => match finished(desk, ticket) {
-            None => return false,
-            Some(finished) => finished.verdict.line_into(Some(finished.offered), &mut out),
+        Ok(Begun::Pending(ticket)) => match desk.finish(ticket) {
+            Err(_) => return false,
+            Ok(finished) => finished.verdict.line_into(Some(finished.offered), &mut out),
         },
     }
     out.as_slice() == text
-}
-
-fn finished(desk: &mut Desk, ticket: Ticket) -> Option<Finished> {
-    let outcome = ticket.judge();
-    desk.finish(ticket, outcome).ok()
 }
 
 fn refusal_prints(fault: EditFault, text: &[u8]) -> bool {
@@ -43,7 +37,7 @@ fn refusal_prints(fault: EditFault, text: &[u8]) -> bool {
     out.as_slice() == text
 }
 
-fn made(alloc: Global, desk: &mut Desk, edit: &Edit, text: &[u8]) -> bool {
+fn made(alloc: Global, desk: &mut KeptDesk, edit: &Edit, text: &[u8]) -> bool {
     let answer = desk.edit(alloc, edit);
     answers(&answer, text)
 }
@@ -102,14 +96,14 @@ fn one_rule(alloc: Global) -> Option<bool> {
     Some(none && added && first && decides && second && ended && unsigned)
 }
 
-fn judged(desk: &Desk, ask: &Ask) -> Option<Judged> {
+fn judged(desk: &KeptDesk, ask: &Ask) -> Option<Judged> {
     match desk.judge(ask) {
         Looked::Known(_) => None,
         Looked::Open(judged) => Some(judged),
     }
 }
 
-fn settles(desk: &mut Desk, judged: Judged, text: &[u8]) -> bool {
+fn settles(desk: &mut KeptDesk, judged: Judged, text: &[u8]) -> bool {
     match desk.settle(judged) {
         Err(_) => false,
         Ok(finished) => {
@@ -182,6 +176,7 @@ fn refusals_are_printed(rt: HostRuntime) -> Result<(), Fail> {
     assert!(rt;
         refusal_prints(EditFault::TableFull, b"refused edit 13 TableFull")
             && refusal_prints(EditFault::ReceiptsFull, b"refused edit 14 ReceiptsFull")
+            && refusal_prints(EditFault::KeeperFault, b"refused edit 16 KeeperFault")
             && refusal_prints(EditFault::OutOfMemory, b"")
     );
     Ok(())

@@ -6,6 +6,8 @@ mod contents;
 #[cfg(test)]
 mod edits;
 #[cfg(test)]
+mod kept_desk;
+#[cfg(test)]
 mod limits;
 #[cfg(test)]
 mod made;

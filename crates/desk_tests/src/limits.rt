@@ -1,8 +1,9 @@
 //! Edits past the limits of a desk.
 use crate::edits::answers;
-use crate::made::{by_id, fresh_desk, rule_of};
+use crate::kept_desk::{KeptDesk, fresh_desk};
+use crate::made::{by_id, rule_of};
 use authority_table::Kind;
-use desk_state::{Content, Desk, Edit, EditKey};
+use desk_state::{Content, Edit, EditKey};
 use req_tree::LineText;
 use std::alloc::Global;
 use std::test::Fail;
@@ -16,7 +17,7 @@ fn number_key(number: u64) -> Option<EditKey> {
 // the edit of this content, under a key of this number, is answered by this line
 fn says(
     alloc: Global,
-    desk: &mut Desk,
+    desk: &mut KeptDesk,
     number: u64,
     content: Option<Content>,
     text: &[u8],
@@ -31,7 +32,7 @@ fn says(
     }
 }
 
-fn is_disabled(alloc: Global, desk: &mut Desk, number: u64) -> bool {
+fn is_disabled(alloc: Global, desk: &mut KeptDesk, number: u64) -> bool {
     match (number_key(number), by_id(1, None)) {
         (Some(key), Some(selector)) => {
             let edit = Edit {
@@ -45,7 +46,7 @@ fn is_disabled(alloc: Global, desk: &mut Desk, number: u64) -> bool {
 }
 
 // a rule is disabled a thousand times and no more
-fn most_disables(alloc: Global, desk: &mut Desk) -> bool {
+fn most_disables(alloc: Global, desk: &mut KeptDesk) -> bool {
     let rule = rule_of(alloc, Kind::Execute, true, b"a").map(Content::Add);
     let mut all = says(alloc, desk, 0, rule, b"ok edit=1 rules=1");
     for number in 1..1_001 {
@@ -80,7 +81,7 @@ fn a_rule_is_disabled_a_thousand_times(rt: HostRuntime) -> Result<(), Fail> {
 }
 
 // an edit under a key of this number is accepted
-fn is_made(alloc: Global, desk: &mut Desk, number: u64, content: Option<Content>) -> bool {
+fn is_made(alloc: Global, desk: &mut KeptDesk, number: u64, content: Option<Content>) -> bool {
     match (number_key(number), content) {
         (Some(key), Some(content)) => {
             let edit = Edit { key, content };
@@ -95,7 +96,7 @@ fn add(alloc: Global) -> Option<Content> {
 }
 
 // ten thousand rules and no more
-fn most_rules(alloc: Global, desk: &mut Desk) -> bool {
+fn most_rules(alloc: Global, desk: &mut KeptDesk) -> bool {
     let mut all = true;
     for number in 0..10_000 {
         all = is_made(alloc, desk, number, add(alloc)) && all;
@@ -110,7 +111,7 @@ fn most_rules(alloc: Global, desk: &mut Desk) -> bool {
 }
 
 // A hundred thousand edits and no more, on a desk that has ten thousand; what the rules refuse is still told first.
-fn most_edits(alloc: Global, desk: &mut Desk) -> bool {
+fn most_edits(alloc: Global, desk: &mut KeptDesk) -> bool {
     let mut all = true;
     for number in 10_000..100_000 {
         all = is_made(alloc, desk, number, Some(Content::Switch(true))) && all;

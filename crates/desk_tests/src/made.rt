@@ -1,17 +1,9 @@
 //! Rules, edits and asks that the tests hand in.
 use authority_table::{Kind, Label, Moment, Priority, RuleId, Selector, Which};
-use code_facts::FactTable;
-use desk_state::{Ask, Content, Desk, Edit, EditKey, NewRule};
+use desk_state::{Ask, Content, Edit, EditKey, NewRule};
 use req_parser::parse;
 use req_tree::{Bytes, Hash20, Identifier, SharedReq, Subject};
 use std::alloc::Global;
-use std::sync::Arc;
-
-/// A desk without rules that knows nothing of any code.
-pub fn fresh_desk(alloc: Global) -> Option<Desk> {
-    let facts = Arc::new(alloc, FactTable::empty(alloc)).ok()?;
-    Some(Desk::fresh(alloc, facts))
-}
 
 /// A rule for what is executed that always means true.
 pub fn new_rule(alloc: Global, allow: bool) -> Option<NewRule> {

@@ -67,7 +67,7 @@ pub(crate) fn is_replied<K: Keeper>(
         }
     };
     let mut out = LineText::new();
-    match desk.edit_kept(alloc, keeper, &edit) {
+    match desk.edit(alloc, keeper, &edit) {
         Ok(answer) => answer.line_into(&mut out),
         Err(fault) => fault.line_into(&mut out),
     }
