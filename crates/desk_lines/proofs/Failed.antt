@@ -9,7 +9,7 @@ use Rattle.policy_model.specs.Outcomes.{Ask}
 use Rattle.object_model.specs.Objects.{Offered}
 use Rattle.session_model.specs.Finishing.{with_offer}
 use Rattle.policy_keeper.specs.Told.{Told}
-use Rattle.desk_lines.specs.Failures.{is_failed, failures, Shows, Keeps}
+use Rattle.desk_state.specs.Failures.{is_failed, failures, Shows, Keeps}
 
 -- one event more
 count_more : (h : List Event) (e : Event) → failures (h ++ e ∷ []) ≡ failures h + length (filter is_failed (e ∷ []))

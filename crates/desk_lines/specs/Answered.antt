@@ -10,7 +10,7 @@ use Rattle.desk_state.specs.Stands.{Stands}
 use Rattle.desk_state.specs.declared.desk.Desk.{Desk}
 use Rattle.desk_lines.specs.declared.slots.OpenSlot.{OpenSlot}
 use Rattle.desk_lines.specs.Slots.{AreOpen}
-use Rattle.desk_lines.specs.Failures.{Shows}
+use Rattle.desk_state.specs.Failures.{Shows}
 
 -- the desk stands for what has happened, and no assessment is open
 abbrev pub BeginsAt : Desk → Opening → State → Type 0

@@ -1,4 +1,3 @@
 pub mod Slots
-pub mod Failures
 pub mod Answered
 pub mod Requests

@@ -13,7 +13,7 @@ ghost use Rattle.desk_state.specs.Answer.{fault_text};
 ghost use Rattle.desk_state.specs.Stands.{tables, Stands};
 ghost use Rattle.desk_lines.specs.declared.slots.OpenSlot as code;
 ghost use Rattle.desk_lines.specs.Answered.{HasReplied};
-ghost use Rattle.desk_lines.specs.Failures.{Keeps};
+ghost use Rattle.desk_state.specs.Failures.{Keeps};
 
 use desk_state::{Desk, EditFault};
 use line_text::LineText;

@@ -36,7 +36,7 @@ impl<K: Keeper> Responder for DeskLines<'_, K> {
     ghost use Rattle.policy_keeper.specs.Mirror.{Mirrors};
     ghost use Rattle.desk_state.specs.Stands.{tables};
     ghost use Rattle.desk_lines.specs.Answered.{HasAnsweredSo};
-    ghost use Rattle.desk_lines.specs.Failures.{Keeps};
+    ghost use Rattle.desk_state.specs.Failures.{Keeps};
 
     ghost answered = { λ begin lines texts replies. HasAnsweredSo begin.desk.now lines.desk.now lines.slots.now.items lines.lost (K.faults begin.keeper.now) (K.faults lines.keeper.now) texts replies
         × Keeps (K.told begin.keeper.now) (K.told lines.keeper.now) (K.faults begin.keeper.now) (K.faults lines.keeper.now)
@@ -61,7 +61,7 @@ impl<'a, K: Keeper> DeskLines<'a, K> {
     ghost use Rattle.policy_keeper.specs.Mirror.{Mirrors};
     ghost use Rattle.desk_state.specs.Stands.{tables};
     ghost use Rattle.desk_lines.specs.Answered.{HasReplied, IsAt};
-    ghost use Rattle.desk_lines.specs.Failures.{Keeps};
+    ghost use Rattle.desk_state.specs.Failures.{Keeps};
     ghost use Rattle.desk_lines.specs.Requests.{request_view};
 
     pub fn over(

@@ -8,7 +8,7 @@ ghost use Rattle.line_session.specs.Ends.{EndsFine, StopsBefore, BreaksOff, AtRe
 ghost use Rattle.policy_keeper.specs.Mirror.{Mirrors};
 ghost use Rattle.desk_state.specs.Stands.{tables};
 ghost use Rattle.desk_lines.specs.Answered.{HasAnswered, HasAnsweredSo};
-ghost use Rattle.desk_lines.specs.Failures.{Keeps};
+ghost use Rattle.desk_state.specs.Failures.{Keeps};
 
 use crate::lines::DeskLines;
 use desk_state::Desk;

@@ -8,6 +8,7 @@ pub mod Begun
 pub mod Finished
 pub mod Status
 pub mod Keeping
+pub mod Failures
 pub mod Ready
 pub mod Loaded
 pub mod Judged

@@ -6,7 +6,7 @@ use Rattle.policy_model.specs.History.{fresh}
 use Rattle.session_model.specs.Slots.{State}
 use Rattle.session_model.specs.Session.{Session, begun}
 use Rattle.code_facts.specs.Tables.{IsFactsFile}
-use Rattle.desk_lines.specs.Failures.{failures}
+use Rattle.desk_state.specs.Failures.{failures}
 use Rattle.rehearsal.specs.Facts.{facts_file}
 use Rattle.rehearsal.specs.Made.{made}
 use Rattle.rehearsal.specs.Counts.{Counts, counts, summary_text}

@@ -12,7 +12,8 @@ use Rattle.desk_state.specs.declared.desk.Desk.{Desk}
 use Rattle.desk_lines.specs.Answered.{BeginsAt, HasAnswered}
 use Rattle.run_status.specs.declared.status.Status.{Status}
 use Rattle.run_status.specs.declared.status.Status.TheVariants.{ReadFault, SessionTooLong}
-use Rattle.spctl_cli.specs.Headline.{Kept, IsSession}
+use Rattle.desk_state.specs.Failures.{Kept}
+use Rattle.spctl_cli.specs.Headline.{IsSession}
 use Rattle.spctl_cli.specs.LastLines.{read_fault_text, too_long_text, IsEndedBy}
 use Rattle.spctl_cli.specs.Ends.{AnswersKept, TellsFault, BreaksAtFault, SessionEnds}
 

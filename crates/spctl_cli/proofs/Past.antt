@@ -5,7 +5,7 @@ use Rattle.std.proofs.lemmas.List.{append_cancel_right}
 use Rattle.line_reader.specs.Lines.{text_of}
 use Rattle.line_reader.specs.Limits.{IsWithin, RunsPast}
 use Rattle.policy_model.specs.History.{Opening}
-use Rattle.spctl_cli.specs.Headline.{Kept}
+use Rattle.desk_state.specs.Failures.{Kept}
 use Rattle.session_model.specs.Slots.{State}
 use Rattle.run_status.specs.declared.status.Status.{Status}
 use Rattle.run_status.specs.declared.status.Status.TheVariants.{Fine, Denied, Usage, ReadFault, WriteFault, ShelfFault, ClockFault, KeeperFault, FileMissing, FileTooLong, BadFacts, BadStore, Refused, SessionTooLong, OutOfMemory}

@@ -16,7 +16,8 @@ use Rattle.command_words.specs.Table.{FileCommand, Command, session, on_files, o
 use Rattle.command_words.specs.Lines.{CommandLine}
 use Rattle.run_commands.specs.Says.{FilesSay}
 use Rattle.spctl_cli.specs.Conclusions.{Concludes}
-use Rattle.spctl_cli.specs.Headline.{Kept, IsSession}
+use Rattle.desk_state.specs.Failures.{Kept}
+use Rattle.spctl_cli.specs.Headline.{IsSession}
 use Rattle.spctl_cli.specs.Ends.{SessionEnds, UsageEnds, IsSpokenEnd, SpokenEnd, OpenedEnd, SessionRun, CommandEnds, RunEnds, GavePast}
 use Rattle.spctl_cli.proofs.UsageAlone.{usage_alone}
 use Rattle.spctl_cli.proofs.Past.{session_past, usage_past, spoken_past}

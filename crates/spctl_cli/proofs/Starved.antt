@@ -8,7 +8,7 @@ use Rattle.run_status.specs.declared.status.Status.TheVariants.{ClockFault, OutO
 use Rattle.run_status.specs.declared.status.Status.{Status}
 use Rattle.command_words.specs.Table.{Command, session, on_files, on_tables, rehearse}
 use Rattle.command_words.specs.Lines.{CommandLine}
-use Rattle.spctl_cli.specs.Headline.{Kept}
+use Rattle.desk_state.specs.Failures.{Kept}
 use Rattle.spctl_cli.specs.Ends.{SpokenEnd, CommandEnds, RunEnds}
 
 appends_nothing : (written : Option (List ℕ)) → Appends written written []

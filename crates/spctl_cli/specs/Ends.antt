@@ -6,7 +6,7 @@ use Rattle.gk_io.specs.Told.{AppendsFront}
 use Rattle.policy_model.specs.History.{Opening, tables_of}
 use Rattle.policy_keeper.specs.Told.{Told}
 use Rattle.policy_keeper.specs.Mirror.{Mirrors}
-use Rattle.desk_lines.specs.Failures.{Shows}
+use Rattle.desk_state.specs.Failures.{Shows, Kept}
 use Rattle.session_model.specs.Slots.{State}
 use Rattle.session_model.specs.Session.{begun, Session}
 use Rattle.line_reader.specs.Lines.{with_lf}
@@ -20,7 +20,7 @@ use Rattle.command_words.specs.Lines.{CommandLine}
 use Rattle.run_commands.specs.Says.{FilesSay, TablesSay}
 use Rattle.rehearse_command.specs.Rehearsing.{SaysRehearsal}
 use Rattle.spctl_cli.specs.Conclusions.{Concludes}
-use Rattle.spctl_cli.specs.Headline.{Kept, IsSession}
+use Rattle.spctl_cli.specs.Headline.{IsSession}
 use Rattle.spctl_cli.specs.LastLines.{read_fault_text, too_long_text, usage_text}
 
 -- a run that says one text neither reads an input nor is told the usage

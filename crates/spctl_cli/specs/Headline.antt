@@ -2,23 +2,12 @@
 use Rattle.std.specs.Prelude.{ℕ, List, Option}
 use Rattle.std.specs.Io.KnownBytes.{Appends, Consumes, IsAtEnd}
 use Rattle.policy_model.specs.History.{Opening, tables_of}
-use Rattle.policy_keeper.specs.Told.{Told}
 use Rattle.policy_keeper.specs.Mirror.{Mirrors}
-use Rattle.desk_lines.specs.Failures.{Shows}
+use Rattle.desk_state.specs.Failures.{Kept, Shows}
 use Rattle.session_model.specs.Slots.{State}
 use Rattle.session_model.specs.Session.{Session}
 use Rattle.line_reader.specs.Lines.{lines_of, text_of}
 use Rattle.line_reader.specs.Limits.{IsWithin}
-
--- what a keeper tells as a run ends, and its count of faults as the run began and as it ends
-pub record Kept : Type 0 where
-  pub told : Told
-  pub before : ℕ
-  pub counted : ℕ
-
--- the same of a keeper that tells this
-abbrev pub kept_by : Told → ℕ → ℕ → Kept
-kept_by told before counted = record { told = told; before = before; counted = counted }
 
 -- the source lost all its bytes and is at its end, and the sink gained just the replies, each with its LF, that a session from
 -- the opening o and the state s on gives to the lines of those bytes; it leads to the state after, whose tables the keeper then has; at most

@@ -8,7 +8,7 @@ ghost use Rattle.line_reader.specs.Limits.{IsWithin};
 ghost use Rattle.command_words.specs.Views.{texts, line_view};
 ghost use Rattle.run_commands.specs.Says.{told_through};
 ghost use Rattle.spctl_cli.specs.Words.{asked};
-ghost use Rattle.spctl_cli.specs.Headline.{kept_by};
+ghost use Rattle.desk_state.specs.Failures.{kept_by};
 ghost use Rattle.spctl_cli.specs.Ends.{RunEnds};
 
 use crate::session::session;

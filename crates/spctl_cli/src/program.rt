@@ -14,7 +14,8 @@ ghost use Rattle.command_words.specs.Views.{texts};
 ghost use Rattle.run_commands.specs.Laws.{TellsRows};
 ghost use Rattle.run_commands.specs.Says.{told_through};
 ghost use Rattle.spctl_cli.specs.Causes.{HasDesk, HasFiles, IsUncut, IsWorked, WouldSay};
-ghost use Rattle.spctl_cli.specs.Headline.{IsSession, kept_by};
+ghost use Rattle.desk_state.specs.Failures.{kept_by};
+ghost use Rattle.spctl_cli.specs.Headline.{IsSession};
 ghost use Rattle.spctl_cli.specs.Ends.{RunEnds, GavePast};
 ghost use Rattle.spctl_cli.specs.Words.{asked, line_on};
 

@@ -6,13 +6,12 @@ ghost use Rattle.gk_io.specs.Shelf.{KeepsFiles};
 ghost use Rattle.gk_io.specs.Told.{IsFlushed};
 ghost use Rattle.line_reader.specs.Limits.{IsWithin};
 ghost use Rattle.command_words.specs.Views.{text_of};
-ghost use Rattle.desk_lines.specs.Failures.{Keeps};
+ghost use Rattle.desk_state.specs.Failures.{Keeps, kept_by};
 ghost use Rattle.policy_model.specs.History.{Opening};
 ghost use Rattle.policy_keeper.specs.Mirror.{Mirrors};
 ghost use Rattle.desk_state.specs.Stands.{tables, Stands};
 ghost use Rattle.session_model.specs.Session.{begun};
 ghost use Rattle.run_commands.specs.Says.{told_through};
-ghost use Rattle.spctl_cli.specs.Headline.{kept_by};
 ghost use Rattle.spctl_cli.specs.Ends.{SessionEnds, SessionRun};
 
 use crate::conclusion::conclude;

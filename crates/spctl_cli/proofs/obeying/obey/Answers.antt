@@ -2,7 +2,7 @@ use Rattle.std.proofs.Common.{sym, ap, subst}
 use Rattle.command_words.specs.Lines.{line_of}
 use Rattle.command_words.specs.Views.{texts}
 use Rattle.run_commands.specs.Says.{told_through}
-use Rattle.spctl_cli.specs.Headline.{kept_by}
+use Rattle.desk_state.specs.Failures.{kept_by}
 use Rattle.spctl_cli.specs.Ends.{RunEnds}
 use Rattle.spctl_cli.proofs.Starved.{run_starved}
 use Rattle.spctl_cli.proofs.obeying.obey.Goals as goal

@@ -3,7 +3,7 @@ use Rattle.std.proofs.Common.{ap, subst}
 use Rattle.command_words.specs.Table as table
 use Rattle.command_words.specs.Views.{line_view, command_view, file_view, table_view}
 use Rattle.run_commands.specs.Says.{told_through}
-use Rattle.spctl_cli.specs.Headline.{kept_by}
+use Rattle.desk_state.specs.Failures.{kept_by}
 use Rattle.spctl_cli.specs.Ends.{IsSpokenEnd}
 use Rattle.spctl_cli.proofs.Runs.{by_command}
 use Rattle.spctl_cli.proofs.obeying.obey_line.Goals as goal

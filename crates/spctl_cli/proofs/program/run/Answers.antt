@@ -5,7 +5,7 @@ use Rattle.command_words.specs.Table.{session, on_files}
 use Rattle.command_words.specs.Views.{texts}
 use Rattle.run_commands.specs.Says.{FilesSay, told_through}
 use Rattle.spctl_cli.specs.Conclusions.{Concludes}
-use Rattle.spctl_cli.specs.Headline.{kept_by}
+use Rattle.desk_state.specs.Failures.{kept_by}
 use Rattle.spctl_cli.specs.Words.{asked, line_on}
 use Rattle.spctl_cli.specs.Ends.{SessionRun}
 use Rattle.spctl_cli.proofs.Runs.{usage_exactly, past_exactly, of_line, fine_session, session_is_done, session_without_facts_is_done}

@@ -2,7 +2,7 @@
 use Rattle.std.proofs.Common.{inl, refl}
 use Rattle.session_model.specs.Session.{begun}
 use Rattle.line_session.specs.Ends.{AtWant}
-use Rattle.spctl_cli.specs.Headline.{kept_by}
+use Rattle.desk_state.specs.Failures.{kept_by}
 use Rattle.spctl_cli.proofs.EndsOfSessions.{session_fine, session_stops, session_breaks, read_fault_ends, too_long_ends}
 use Rattle.spctl_cli.proofs.session.over_desk.Goals as goal
 

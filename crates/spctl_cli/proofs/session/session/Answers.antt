@@ -6,7 +6,7 @@ use Rattle.desk_opening.specs.declared.unopened.Unopened.TheVariants.{KeeperFaul
 use Rattle.desk_opening.specs.Opens.{SaysUnopened}
 use Rattle.run_status.specs.declared.stop.Stop.TheVariants as stop
 use Rattle.run_commands.specs.Says.{told_through}
-use Rattle.spctl_cli.specs.Headline.{kept_by}
+use Rattle.desk_state.specs.Failures.{kept_by}
 use Rattle.spctl_cli.specs.Ends.{SessionEnds}
 use Rattle.spctl_cli.proofs.Concluded.{concluded, concluded_end, spoken_uttered}
 use Rattle.spctl_cli.proofs.WithoutDesk.{unopened_says, unopened_speaks, unopened_unasked, said_through, not_asked, ok_is_not_err, unsaid_stop, unsaid_keeper, unsaid_back}

@@ -26,3 +26,13 @@ Shows old new before counted = CanRise counted → before + failures new ≤ cou
 -- what is told now was told before, and the count didn't fall
 abbrev pub Keeps : Told → Told → ℕ → ℕ → Type 0
 Keeps old new before counted = (IsSome new → IsSome old) × (before ≤ counted)
+
+-- what a keeper tells as a run ends, and its count of faults as the run began and as it ends
+pub record Kept : Type 0 where
+  pub told : Told
+  pub before : ℕ
+  pub counted : ℕ
+
+-- the same of a keeper that tells this
+abbrev pub kept_by : Told → ℕ → ℕ → Kept
+kept_by told before counted = record { told = told; before = before; counted = counted }
