@@ -1,4 +1,6 @@
+mod OneReply
 mod OneStatus
+mod OneTableStatus
 mod Over
 mod Through
 mod WithoutDesk

@@ -7,6 +7,7 @@ use Rattle.policy_model.specs.Rules.{Kind}
 use Rattle.policy_model.specs.History.{Event, Opening}
 use Rattle.store_model.specs.Raw.{RawTables}
 use Rattle.policy_keeper.specs.Told.{Told}
+use Rattle.desk_state.specs.Failures.{Kept}
 use Rattle.req_grammar.specs.declared.limits.TheConstants.{MOST_TEXT_BYTES}
 use Rattle.req_blob.specs.declared.limits.TheConstants.{MOST_BYTES}
 use Rattle.run_status.specs.declared.status.Status.{Status}
@@ -28,21 +29,21 @@ use Rattle.table_commands.specs.ImportSays.{Imports, SaysImport}
 use Rattle.run_commands.specs.Says.{DeskSays, FilesSay, TableSays, TablesSay}
 use Rattle.run_commands.specs.Laws.{TellsRows, IsTimeless, FilesHaveOneStatus, TimelessStatusIsOne, BadStoreIsOne}
 
-nothing_told : IsSome {T = RawTables} None → ⊥
+pub nothing_told : IsSome {T = RawTables} None → ⊥
 nothing_told h = (cc)
 
-same_bytes : (found : Option (List ℕ)) (xs ys : List ℕ) → found ≡ Some xs → found ≡ Some ys → xs ≡ ys
+pub same_bytes : (found : Option (List ℕ)) (xs ys : List ℕ) → found ≡ Some xs → found ≡ Some ys → xs ≡ ys
 same_bytes found xs ys a b = (cc)
 
 not_both : (found : Option (List ℕ)) (xs : List ℕ) → found ≡ None → found ≡ Some xs → ⊥
 not_both found xs a b = (cc)
 
 -- no file of that name, or one that is longer
-abbrev IsWithout : List File → List ℕ → ℕ → Status → Type 0
+abbrev pub IsWithout : List File → List ℕ → ℕ → Status → Type 0
 IsWithout files name limit status =
     ((status ≡ FileMissing) × (file_named files name ≡ None)) ⊎ ((status ≡ FileTooLong) × ((bytes : List ℕ) × (file_named files name ≡ Some bytes) × (limit < length bytes)))
 
-without : (files : List File) (name : List ℕ) (limit : ℕ) (status : Status) (text : List ℕ) → SaysWithoutFile (Some files) name limit status text → IsWithout files name limit status
+pub without : (files : List File) (name : List ℕ) (limit : ℕ) (status : Status) (text : List ℕ) → SaysWithoutFile (Some files) name limit status text → IsWithout files name limit status
 without files name limit Fine text h = absurd h
 without files name limit Denied text h = absurd h
 without files name limit Usage text h = absurd h
@@ -60,13 +61,13 @@ without files name limit SessionTooLong text h = absurd h
 without files name limit OutOfMemory text h = absurd h
 
 -- a file within the limit is neither missing nor too long
-there : (files : List File) (name : List ℕ) (limit : ℕ) (status : Status) (bytes : List ℕ) → IsWithout files name limit status → file_named files name ≡ Some bytes → length bytes ≤ limit → ⊥
+pub there : (files : List File) (name : List ℕ) (limit : ℕ) (status : Status) (bytes : List ℕ) → IsWithout files name limit status → file_named files name ≡ Some bytes → length bytes ≤ limit → ⊥
 there files name limit status bytes (inl missing) found short = not_both (file_named files name) bytes missing.1 found
 there files name limit status bytes (inr long) found short =
     let same = ap length (same_bytes (file_named files name) long.1.0 bytes long.1.1 found) in
     omega (arith, same, short, long.1.2)
 
-one_without : (files : List File) (name : List ℕ) (limit : ℕ) (first second : Status) → IsWithout files name limit first → IsWithout files name limit second → first ≡ second
+pub one_without : (files : List File) (name : List ℕ) (limit : ℕ) (first second : Status) → IsWithout files name limit first → IsWithout files name limit second → first ≡ second
 one_without files name limit first second (inl a) (inl b) = a.0 ∙ sym b.0
 one_without files name limit first second (inr a) (inr b) = a.0 ∙ sym b.0
 one_without files name limit first second (inl a) (inr b) = absurd (not_both (file_named files name) b.1.0 a.1 b.1.1)
@@ -174,14 +175,14 @@ import_is_not_bad files o name text after (inr says) = works_are_not_bad o after
     works_are_not_bad o after bytes text (inl refused) = refused_is_not_bad refused.status_is
     works_are_not_bad o after bytes text (inr done) = when_is_not_bad (list_any is_refusal done.replies) (sym done.status_is)
 
-not_bad : (files : Option (List File)) (kept : Told) (command : TableCommand) (o : Opening) (text : List ℕ) → TableSays files kept command o BadStore text → ⊥
+not_bad : (files : Option (List File)) (kept : Kept) (command : TableCommand) (o : Opening) (text : List ℕ) → TableSays files kept command o BadStore text → ⊥
 not_bad files kept (table.edit line) o text does = reply_is_not_bad does.says.says.reply (sym does.says.says.status_is)
 not_bad files kept table.status o text says = fine_is_not_bad says.status_is
 not_bad files kept table.list o text says = fine_is_not_bad says.status_is
 not_bad files kept (table.import_file name) o text does = import_is_not_bad files o name text does.after does.says
 
 module _ (apart : OpenedIsNotUnopened) (unopened : UnopenedHasOneStatus) where
-  bad_in_all : (files : List File) (raw : RawTables) (kept : Told) (command : TableCommand) (second : Status) (said other : List ℕ)
+  bad_in_all : (files : List File) (raw : RawTables) (kept : Kept) (command : TableCommand) (second : Status) (said other : List ℕ)
       → TablesSay (Some files) (Some raw) kept command BadStore said → TablesSay (Some files) (Some raw) kept command second other → second ≡ BadStore
   bad_in_all files raw kept command second said other (inl a) (inl b) = unopened files None raw second BadStore other said b a
   bad_in_all files raw kept command second said other (inl a) (inr b) = absurd (apart files None raw b.0 BadStore said b.1 a)

@@ -6,6 +6,7 @@ use Rattle.policy_keeper.specs.Told.{Told}
 use Rattle.policy_keeper.specs.Mirror.{Mirrors}
 use Rattle.desk_state.specs.declared.desk.Desk.{Desk}
 use Rattle.desk_state.specs.Stands.{tables, Stands}
+use Rattle.desk_state.specs.Failures.{Kept, Shows}
 use Rattle.run_status.specs.declared.said.Said.{Said}
 use Rattle.run_status.specs.declared.status.Status.{Status}
 use Rattle.run_status.specs.declared.status.Status.TheVariants.{Fine, Denied, Usage, ReadFault, WriteFault, ShelfFault, ClockFault, KeeperFault, FileMissing, FileTooLong, BadFacts, BadStore, Refused, SessionTooLong, OutOfMemory}
@@ -38,8 +39,8 @@ over_desk files facts rows Says o r opening h =
     map_ok (λ said. Says o said.status said.text) (λ said. DeskSays files facts rows Says said.status said.text) r h (λ said says. inr (o, opening, says))
 
 -- a keeper that has the desk's tables has those after what happened
-pub does : (kept : Told) (o : Opening) (desk : Desk) (Says : List Event → Type 0) → Mirrors kept (tables desk) → ((after : List Event) × Says after × Stands desk o after) → Does kept Says o
-does kept o desk Says mirrors h = record { after = h.0; says = h.1; mirrors = subst (Mirrors kept) h.2.tables_are mirrors }
+pub does : (kept : Kept) (o : Opening) (desk : Desk) (Says : List Event → Type 0) → Mirrors kept.told (tables desk) → ((after : List Event) × Says after × Stands desk o after × Shows [] after kept.before kept.counted) → Does kept Says o
+does kept o desk Says mirrors h = record { after = h.0; says = h.1; mirrors = subst (Mirrors kept.told) h.2.tables_are mirrors; shows = h.3 }
 
 -- what is said where no desk was opened is said over a desk
 pub unopened_over : (files : Option (List File)) (facts : Option (List ℕ)) (before after : Told) (Says : Opening → Status → List ℕ → Type 0) (why : Unopened) (r : Result Said Halt) → TellsTheSame before after → IsUnopened files facts after why → IsUnsaid why r

@@ -1,9 +1,11 @@
 -- What commands say has one status; each law is proved on a function of src/laws.rt. This project's own.
-use Rattle.std.specs.Prelude.{◌≡◌, ℕ, List, Option, Some, IsSome, ⊤}
+use Rattle.std.specs.Prelude.{◌≡◌, ◌≢◌, ℕ, List, Option, Some, IsSome, ⊤}
 use Rattle.gk_io.specs.Shelf.{File}
+use Rattle.gk_io.specs.Faults.{Rose}
 use Rattle.policy_keeper.specs.Told.{Told}
+use Rattle.desk_state.specs.Failures.{Kept}
 use Rattle.run_status.specs.declared.status.Status.{Status}
-use Rattle.run_status.specs.declared.status.Status.TheVariants.{FileMissing, FileTooLong, BadFacts, BadStore, Refused}
+use Rattle.run_status.specs.declared.status.Status.TheVariants.{FileMissing, FileTooLong, BadFacts, BadStore, Refused, OutOfMemory}
 use Rattle.command_words.specs.Table.{FileCommand, compile, compile_set, dump, assess, TableCommand}
 use Rattle.policy_model.specs.History.{Opening}
 use Rattle.desk_opening.specs.Opens.{TellsTheSame, IsOpening, SaysUnopened}
@@ -37,8 +39,18 @@ TimelessStatusIsOne = (files : List File) (moments : Option (List ℕ)) (rows : 
 
 -- a store that is bad is so to every command on the rules
 abbrev pub BadStoreIsOne : Type 0
-BadStoreIsOne = (files : List File) (rows kept : Told) (command : TableCommand) (second : Status) (said other : List ℕ) → IsSome rows
+BadStoreIsOne = (files : List File) (rows : Told) (kept : Kept) (command : TableCommand) (second : Status) (said other : List ℕ) → IsSome rows
     → TablesSay (Some files) rows kept command BadStore said → TablesSay (Some files) rows kept command second other → second ≡ BadStore
+
+-- the keeper's count could rise, and didn't
+abbrev pub IsSteady : Kept → Type 0
+IsSteady kept = Rose kept.before kept.counted → ⊥
+
+-- over files and rows that are told, and a keeper whose count could rise and didn't, a command on the rules says something with one status,
+-- unless memory ran out
+abbrev pub TablesHaveOneStatus : Type 0
+TablesHaveOneStatus = (files : List File) (rows : Told) (kept others : Kept) (command : TableCommand) (first second : Status) (said other : List ℕ) → IsSome rows → IsSteady kept → IsSteady others → first ≢ OutOfMemory → second ≢ OutOfMemory
+    → TablesSay (Some files) rows kept command first said → TablesSay (Some files) rows others command second other → first ≡ second
 
 -- where a run begins by what the keeper told when its desk was opened, it begins by what the keeper told throughout
 abbrev pub OpeningThrough : Type 0

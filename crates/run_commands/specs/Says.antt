@@ -7,6 +7,7 @@ use Rattle.req_grammar.specs.declared.limits.TheConstants.{MOST_TEXT_BYTES}
 use Rattle.req_blob.specs.declared.limits.TheConstants.{MOST_BYTES}
 use Rattle.policy_keeper.specs.Told.{Told}
 use Rattle.policy_keeper.specs.Mirror.{Mirrors}
+use Rattle.desk_state.specs.Failures.{Kept, Shows}
 use Rattle.run_status.specs.declared.status.Status.{Status}
 use Rattle.run_status.specs.Files.{SaysOnFile}
 use Rattle.language_commands.specs.Compiling.{Compiles}
@@ -30,11 +31,13 @@ abbrev pub DeskSays : Option (List File) → Option (List ℕ) → Told → (Ope
 DeskSays files facts rows Says status text =
     SaysUnopened files facts rows status text ⊎ ((o : Opening) × IsOpening files facts rows o × Says o status text)
 
--- something is said and has happened since the opening o, and the keeper has the tables after it
-pub record Does (kept : Told) (Says : List Event → Type 0) (o : Opening) : Type 0 where
+-- something is said and has happened since the opening o, and the keeper has the tables after it; at most as many edits failed as its
+-- count shows
+pub record Does (kept : Kept) (Says : List Event → Type 0) (o : Opening) : Type 0 where
   pub after : List Event
   pub says : Says after
-  pub mirrors : Mirrors kept (tables_of o after)
+  pub mirrors : Mirrors kept.told (tables_of o after)
+  pub shows : Shows [] after kept.before kept.counted
 
 -- what a command on files says, by its status, over the files of the shelf and the moments of the clock; an assessment by a desk with
 -- the run's facts and the keeper's rows
@@ -45,13 +48,13 @@ FilesSay files moments rows facts (dump name) status text = SaysOnFile Dumps fil
 FilesSay files moments rows facts (assess kind name code) status text =
     DeskSays files facts rows (λ o. SaysAssess o [] files moments kind name code) status text
 
--- what a command on the rules says, by its status, over a desk that begins at o; kept is what the keeper then has
-abbrev pub TableSays : Option (List File) → Told → TableCommand → Opening → Status → List ℕ → Type 0
+-- what a command on the rules says, by its status, over a desk that begins at o; kept is what the keeper then tells, and its counts
+abbrev pub TableSays : Option (List File) → Kept → TableCommand → Opening → Status → List ℕ → Type 0
 TableSays files kept (table.edit line) o end text = Does kept (λ after. SaysEdit o [] line end text after) o
 TableSays files kept table.status o end text = SaysStatus o [] end text
 TableSays files kept table.list o end text = SaysList o [] end text
 TableSays files kept (table.import_file name) o end text = Does kept (λ after. SaysImport o [] files name end text after) o
 
 -- what a command on the rules says, by its status, over the rows of the keeper; it asks for no facts
-abbrev pub TablesSay : Option (List File) → Told → Told → TableCommand → Status → List ℕ → Type 0
+abbrev pub TablesSay : Option (List File) → Told → Kept → TableCommand → Status → List ℕ → Type 0
 TablesSay files rows kept command status text = DeskSays files None rows (TableSays files kept command) status text

@@ -6,6 +6,7 @@ ghost use Rattle.gk_io.specs.Shelf.{KeepsFiles};
 ghost use Rattle.policy_model.specs.History.{Opening};
 ghost use Rattle.policy_keeper.specs.Mirror.{Mirrors};
 ghost use Rattle.desk_state.specs.Stands.{tables, Stands};
+ghost use Rattle.desk_state.specs.Failures.{kept_by};
 ghost use Rattle.table_commands.specs.EditSays.{SaysEdit};
 ghost use Rattle.table_commands.specs.ImportSays.{SaysImport};
 ghost use Rattle.table_commands.specs.TableSays.{SaysList, SaysStatus};
@@ -33,7 +34,7 @@ pub fn said_of_tables<H: Shelf, K: Keeper>(
     shelf: &mut H,
     keeper: &mut K,
 ) -> Result<Said, Halt>
-    ensures says { IfOk result (λ said. TablesSay (H.files shelf.old) (told_through (K.told keeper.old) (K.told keeper.new)) (K.told keeper.new) (table_view command.entry) said.status said.text) }
+    ensures says { IfOk result (λ said. TablesSay (H.files shelf.old) (told_through (K.told keeper.old) (K.told keeper.new)) (kept_by (K.told keeper.new) (K.faults keeper.old) (K.faults keeper.new)) (table_view command.entry) said.status said.text) }
     ensures spoken { IfOk result (λ said. IsUttered said.status) }
     ensures kept { KeepsFiles (H.files shelf.old) (H.files shelf.new) }
     ensures later { H.faults shelf.old ≤ H.faults shelf.new }
@@ -58,7 +59,7 @@ fn edit_opened<H: Shelf, K: Keeper>(
     shelf: &mut H,
     keeper: &mut K,
 ) -> Result<Said, Halt>
-    ensures says { IfOk result (λ said. TablesSay (H.files shelf.old) (told_through (K.told keeper.old) (K.told keeper.new)) (K.told keeper.new) (model.edit line.now) said.status said.text) }
+    ensures says { IfOk result (λ said. TablesSay (H.files shelf.old) (told_through (K.told keeper.old) (K.told keeper.new)) (kept_by (K.told keeper.new) (K.faults keeper.old) (K.faults keeper.new)) (model.edit line.now) said.status said.text) }
     ensures spoken { IfOk result (λ said. IsUttered said.status) }
     ensures kept { KeepsFiles (H.files shelf.old) (H.files shelf.new) }
     ensures later { H.faults shelf.old ≤ H.faults shelf.new }
@@ -82,7 +83,7 @@ fn edit_over<K: Keeper>(
     keeper: &mut K,
 ) -> Result<Said, Halt>
     requires { Mirrors (K.told keeper.old) (tables desk) }
-    ensures says { (o : Opening) → Stands desk o [] → IfOk result (λ said. Does (K.told keeper.new) (λ after. SaysEdit o [] line.now said.status said.text after) o) }
+    ensures says { (o : Opening) → Stands desk o [] → IfOk result (λ said. Does (kept_by (K.told keeper.new) (K.faults keeper.old) (K.faults keeper.new)) (λ after. SaysEdit o [] line.now said.status said.text after) o) }
     ensures telling { IsSome (K.told keeper.new) → IsSome (K.told keeper.old) }
     ensures later { K.faults keeper.old ≤ K.faults keeper.new }
     ensures spoken { (o : Opening) → Stands desk o [] → IfOk result (λ said. IsUttered said.status) }
@@ -99,7 +100,7 @@ fn status_opened<H: Shelf, K: Keeper>(
     shelf: &mut H,
     keeper: &mut K,
 ) -> Result<Said, Halt>
-    ensures says { IfOk result (λ said. TablesSay (H.files shelf.old) (told_through (K.told keeper.old) (K.told keeper.new)) (K.told keeper.new) model.status said.status said.text) }
+    ensures says { IfOk result (λ said. TablesSay (H.files shelf.old) (told_through (K.told keeper.old) (K.told keeper.new)) (kept_by (K.told keeper.new) (K.faults keeper.old) (K.faults keeper.new)) model.status said.status said.text) }
     ensures spoken { IfOk result (λ said. IsUttered said.status) }
     ensures kept { KeepsFiles (H.files shelf.old) (H.files shelf.new) }
     ensures later { H.faults shelf.old ≤ H.faults shelf.new }
@@ -122,7 +123,7 @@ fn list_opened<H: Shelf, K: Keeper>(
     shelf: &mut H,
     keeper: &mut K,
 ) -> Result<Said, Halt>
-    ensures says { IfOk result (λ said. TablesSay (H.files shelf.old) (told_through (K.told keeper.old) (K.told keeper.new)) (K.told keeper.new) model.list said.status said.text) }
+    ensures says { IfOk result (λ said. TablesSay (H.files shelf.old) (told_through (K.told keeper.old) (K.told keeper.new)) (kept_by (K.told keeper.new) (K.faults keeper.old) (K.faults keeper.new)) model.list said.status said.text) }
     ensures spoken { IfOk result (λ said. IsUttered said.status) }
     ensures kept { KeepsFiles (H.files shelf.old) (H.files shelf.new) }
     ensures later { H.faults shelf.old ≤ H.faults shelf.new }
@@ -166,7 +167,7 @@ fn import_opened<H: Shelf, K: Keeper>(
     shelf: &mut H,
     keeper: &mut K,
 ) -> Result<Said, Halt>
-    ensures says { IfOk result (λ said. TablesSay (H.files shelf.old) (told_through (K.told keeper.old) (K.told keeper.new)) (K.told keeper.new) (model.import_file name.now) said.status said.text) }
+    ensures says { IfOk result (λ said. TablesSay (H.files shelf.old) (told_through (K.told keeper.old) (K.told keeper.new)) (kept_by (K.told keeper.new) (K.faults keeper.old) (K.faults keeper.new)) (model.import_file name.now) said.status said.text) }
     ensures spoken { IfOk result (λ said. IsUttered said.status) }
     ensures kept { KeepsFiles (H.files shelf.old) (H.files shelf.new) }
     ensures later { H.faults shelf.old ≤ H.faults shelf.new }
@@ -191,7 +192,7 @@ fn import_over<H: Shelf, K: Keeper>(
     keeper: &mut K,
 ) -> Result<Said, Halt>
     requires { Mirrors (K.told keeper.old) (tables desk) }
-    ensures says { (o : Opening) → Stands desk o [] → IfOk result (λ said. Does (K.told keeper.new) (λ after. SaysImport o [] (H.files shelf.old) name.now said.status said.text after) o) }
+    ensures says { (o : Opening) → Stands desk o [] → IfOk result (λ said. Does (kept_by (K.told keeper.new) (K.faults keeper.old) (K.faults keeper.new)) (λ after. SaysImport o [] (H.files shelf.old) name.now said.status said.text after) o) }
     ensures telling { IsSome (K.told keeper.new) → IsSome (K.told keeper.old) }
     ensures keeper_later { K.faults keeper.old ≤ K.faults keeper.new }
     ensures spoken { (o : Opening) → Stands desk o [] → IfOk result (λ said. IsUttered said.status) }

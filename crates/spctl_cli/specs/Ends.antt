@@ -105,7 +105,7 @@ CommandEnds files moments rows kept facts session left now written sent status =
 CommandEnds files moments rows kept facts (on_files command) left now written sent status =
     SpokenEnd (FilesSay files moments rows facts command) left now written sent status
 CommandEnds files moments rows kept facts (on_tables command) left now written sent status =
-    SpokenEnd (TablesSay files rows kept.told command) left now written sent status
+    SpokenEnd (TablesSay files rows kept command) left now written sent status
 CommandEnds files moments rows kept facts (rehearse steps) left now written sent status =
     SpokenEnd (SaysRehearsal steps) left now written sent status
 

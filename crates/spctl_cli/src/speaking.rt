@@ -5,6 +5,7 @@ ghost use Rattle.gk_io.specs.Faults.{Rose};
 ghost use Rattle.gk_io.specs.Shelf.{KeepsFiles};
 ghost use Rattle.gk_io.specs.Told.{IsFlushed};
 ghost use Rattle.command_words.specs.Views.{file_view, table_view, text_of};
+ghost use Rattle.desk_state.specs.Failures.{kept_by};
 ghost use Rattle.run_commands.specs.Says.{FilesSay, TablesSay, told_through};
 ghost use Rattle.rehearse_command.specs.Rehearsing.{SaysRehearsal};
 ghost use Rattle.spctl_cli.specs.Ends.{SpokenEnd, UsageEnds};
@@ -63,7 +64,7 @@ pub(crate) fn on_tables<W: Sink, H: Shelf, K: Keeper>(
     shelf: &mut H,
     keeper: &mut K,
 ) -> Status
-    ensures ends { (left : Option (List ℕ)) → SpokenEnd (TablesSay (H.files shelf.old) (told_through (K.told keeper.old) (K.told keeper.new)) (K.told keeper.new) (table_view command.entry))
+    ensures ends { (left : Option (List ℕ)) → SpokenEnd (TablesSay (H.files shelf.old) (told_through (K.told keeper.old) (K.told keeper.new)) (kept_by (K.told keeper.new) (K.faults keeper.old) (K.faults keeper.new)) (table_view command.entry))
         left left (W.written output.old) (W.written output.new) result }
     ensures flushed { result ≢ Status.WriteFault → IsFlushed (W.flushed output.old) (W.written output.old)
         → IsFlushed (W.flushed output.new) (W.written output.new) }

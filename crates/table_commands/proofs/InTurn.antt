@@ -1,5 +1,5 @@
 -- Edits one after another, with one more at the end.
-use Rattle.std.proofs.Common.{◌≡◌, ℕ, ◌+◌, ◌<◌, Bool, true, false, ◌||◌, List, [], ◌∷◌, ◌++◌, length, take, get_or, refl, sym, ap, subst, ◌∙◌, append_assoc}
+use Rattle.std.proofs.Common.{◌≡◌, ℕ, ◌+◌, ◌<◌, ◌≤◌, Bool, true, false, ◌||◌, List, [], ◌∷◌, ◌++◌, length, take, get_or, refl, sym, ap, subst, ◌∙◌, append_assoc}
 use Rattle.std.specs.List.{list_any}
 use Rattle.line_reader.specs.Lines.{with_lf, text_of}
 use Rattle.policy_model.specs.Contents.{Edit}
@@ -12,6 +12,7 @@ use Rattle.desk_state.specs.declared.desk.Desk.{Desk}
 use Rattle.desk_state.specs.Stands.{Stands}
 use Rattle.table_commands.specs.Replies.{EditReplies, EditsReply, is_refusal}
 use Rattle.table_commands.specs.Steps.{Replies, AllReply}
+use Rattle.table_commands.proofs.Failed.{shows_on}
 
 -- one more edit with its reply
 pub replies_more : (o : Opening) (h : List Event) (es : List Edit) (rs : List (List ℕ)) (mid : List Event) (e : Edit) (r : List ℕ) (after : List Event)
@@ -44,15 +45,16 @@ any_more test (x ∷ xs) r = by (test x) (any_more test xs r)
     by false e = e
 
 -- one more of a list of edits
-pub all_more : (o : Opening) (h : List Event) (es : List Edit) (e : Edit) (old desk : Desk) (text more : List ℕ) (any refused : Bool) → AllReply o h es old text any
-    → ((mid : List Event) → Stands old o mid → Replies o mid e desk text more refused) → AllReply o h (es ++ e ∷ []) desk more (any || refused)
-all_more o h es e old desk text more any refused so_far step =
+pub all_more : (o : Opening) (h : List Event) (es : List Edit) (e : Edit) (old desk : Desk) (before counted now : ℕ) (text more : List ℕ) (any refused : Bool) → counted ≤ now → AllReply o h es old before counted text any
+    → ((mid : List Event) → Stands old o mid → Replies o mid e desk counted now text more refused) → AllReply o h (es ++ e ∷ []) desk before now more (any || refused)
+all_more o h es e old desk before counted now text more any refused later so_far step =
     let one = step so_far.after so_far.stands in
     record {
       replies = so_far.replies ++ one.reply ∷ [];
       after = one.came.0;
       answers = replies_more o h es so_far.replies so_far.after e one.reply one.came.0 so_far.answers one.came.1;
       stands = one.came.2;
+      shows = shows_on h so_far.after one.came.0 before counted now later so_far.shows one.came.3;
       text_is = one.text_is ∙ ap (λ (t : List ℕ). t ++ with_lf one.reply) so_far.text_is ∙ sym (text_more so_far.replies one.reply);
       refused_is = both so_far.refused_is one.refused_is ∙ sym (any_more is_refusal so_far.replies one.reply);
     }

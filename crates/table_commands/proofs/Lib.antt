@@ -1,2 +1,4 @@
+pub mod Came
+pub mod Failed
 pub mod InTurn
 pub mod Saying

@@ -6,6 +6,7 @@ ghost use Rattle.line_model.specs.LineFaults.{line_fault_text};
 ghost use Rattle.line_words.specs.Faults.{fault_of};
 ghost use Rattle.rule_edits.specs.Edit.{edit_of};
 ghost use Rattle.desk_state.specs.Stands.{tables, Stands};
+ghost use Rattle.desk_state.specs.Failures.{Shows};
 ghost use Rattle.policy_keeper.specs.Mirror.{Mirrors};
 ghost use Rattle.table_commands.specs.Replies.{EditReplies};
 ghost use Rattle.table_commands.specs.EditSays.{SaysReply, SaysEdit};
@@ -26,7 +27,7 @@ pub fn edit_line<K: Keeper>(
     line: &[u8],
 ) -> Result<Said, AllocError>
     requires mirrors { Mirrors (K.told keeper.old) (tables desk.old) }
-    ensures says { (o : Opening) (h : List Event) → Stands desk.old o h → IfOk result (λ said. (after : List Event) × SaysEdit o h line.now said.status said.text after × Stands desk.new o after) }
+    ensures says { (o : Opening) (h : List Event) → Stands desk.old o h → IfOk result (λ said. (after : List Event) × SaysEdit o h line.now said.status said.text after × Stands desk.new o after × Shows h after (K.faults keeper.old) (K.faults keeper.new)) }
     ensures unchanged { (o : Opening) (h : List Event) → Stands desk.old o h → OnErr result (Stands desk.new o h) }
     ensures mirrors { Mirrors (K.told keeper.new) (tables desk.new) }
     ensures telling { IsSome (K.told keeper.new) → IsSome (K.told keeper.old) }
@@ -48,7 +49,7 @@ fn edited<K: Keeper>(
 ) -> Result<Said, AllocError>
     requires mirrors { Mirrors (K.told keeper.old) (tables desk.old) }
     ensures says { (o : Opening) (h : List Event) → Stands desk.old o h
-        → IfOk result (λ said. (after : List Event) × SaysReply (λ reply. EditReplies o h (edit_of edit.now) reply after) said.status said.text × Stands desk.new o after) }
+        → IfOk result (λ said. (after : List Event) × SaysReply (λ reply. EditReplies o h (edit_of edit.now) reply after) said.status said.text × Stands desk.new o after × Shows h after (K.faults keeper.old) (K.faults keeper.new)) }
     ensures unchanged { (o : Opening) (h : List Event) → Stands desk.old o h → OnErr result (Stands desk.new o h) }
     ensures mirrors { Mirrors (K.told keeper.new) (tables desk.new) }
     ensures telling { IsSome (K.told keeper.new) → IsSome (K.told keeper.old) }

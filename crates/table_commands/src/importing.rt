@@ -8,6 +8,7 @@ ghost use Rattle.line_reader.specs.Lines.{with_lf};
 ghost use Rattle.import_csv.specs.FaultText.{import_fault_text};
 ghost use Rattle.import_csv.specs.RowCode.{edits_of};
 ghost use Rattle.desk_state.specs.Stands.{tables, Stands};
+ghost use Rattle.desk_state.specs.Failures.{Shows};
 ghost use Rattle.policy_keeper.specs.Mirror.{Mirrors};
 ghost use Rattle.table_commands.specs.ImportSays.{Imports, SaysImport};
 ghost use Rattle.table_commands.specs.Steps.{Comes};
@@ -34,7 +35,7 @@ pub fn import<H: Shelf, K: Keeper>(
 ) -> Result<Said, Stop>
     requires mirrors { Mirrors (K.told keeper.old) (tables desk.old) }
     ensures says { (o : Opening) (h : List Event) → Stands desk.old o h
-        → IfOk result (λ said. (after : List Event) × SaysImport o h (H.files shelf.old) name.now said.status said.text after × Stands desk.new o after) }
+        → IfOk result (λ said. (after : List Event) × SaysImport o h (H.files shelf.old) name.now said.status said.text after × Stands desk.new o after × Shows h after (K.faults keeper.old) (K.faults keeper.new)) }
     ensures unchanged { (o : Opening) (h : List Event) → Stands desk.old o h → OnErr result (Stands desk.new o h) }
     ensures mirrors { Mirrors (K.told keeper.new) (tables desk.new) }
     ensures telling { IsSome (K.told keeper.new) → IsSome (K.told keeper.old) }
@@ -60,7 +61,7 @@ fn import_bytes<K: Keeper>(
 ) -> Result<Said, AllocError>
     requires mirrors { Mirrors (K.told keeper.old) (tables desk.old) }
     ensures says { (o : Opening) (h : List Event) → Stands desk.old o h
-        → IfOk result (λ said. (after : List Event) × Imports o h after bytes.now said.status said.text × Stands desk.new o after) }
+        → IfOk result (λ said. (after : List Event) × Imports o h after bytes.now said.status said.text × Stands desk.new o after × Shows h after (K.faults keeper.old) (K.faults keeper.new)) }
     ensures unchanged { (o : Opening) (h : List Event) → Stands desk.old o h → OnErr result (Stands desk.new o h) }
     ensures mirrors { Mirrors (K.told keeper.new) (tables desk.new) }
     ensures telling { IsSome (K.told keeper.new) → IsSome (K.told keeper.old) }
@@ -90,7 +91,7 @@ fn refused(alloc: Global, fault: &ImportFault) -> Result<Said, AllocError>
 /// What is said of the rows, each made as its edit.
 fn import_rows<K: Keeper>(alloc: Global, desk: &mut Desk, keeper: &mut K, edits: &[Edit]) -> Said
     requires mirrors { Mirrors (K.told keeper.old) (tables desk.old) }
-    ensures says { (o : Opening) (h : List Event) → Stands desk.old o h → Comes o h (edits_of edits.now) desk.new result.status result.text }
+    ensures says { (o : Opening) (h : List Event) → Stands desk.old o h → Comes o h (edits_of edits.now) desk.new (K.faults keeper.old) (K.faults keeper.new) result.status result.text }
     ensures mirrors { Mirrors (K.told keeper.new) (tables desk.new) }
     ensures telling { IsSome (K.told keeper.new) → IsSome (K.told keeper.old) }
     ensures later { K.faults keeper.old ≤ K.faults keeper.new }
@@ -113,7 +114,7 @@ fn rows_onto<K: Keeper>(
 ) -> Status
     requires mirrors { Mirrors (K.told keeper.old) (tables desk.old) }
     requires empty { text.old.items ≡ [] }
-    ensures says { (o : Opening) (h : List Event) → Stands desk.old o h → Comes o h (edits_of edits.now) desk.new result text.new.items }
+    ensures says { (o : Opening) (h : List Event) → Stands desk.old o h → Comes o h (edits_of edits.now) desk.new (K.faults keeper.old) (K.faults keeper.new) result text.new.items }
     ensures mirrors { Mirrors (K.told keeper.new) (tables desk.new) }
     ensures telling { IsSome (K.told keeper.new) → IsSome (K.told keeper.old) }
     ensures later { K.faults keeper.old ≤ K.faults keeper.new }

@@ -12,7 +12,7 @@ ghost use Rattle.table_commands.specs.Replies.{is_refusal, refused_when};
 ghost use Rattle.table_commands.specs.Steps.{Came, Replies};
 
 use crate::limits::REPLY_ROOM;
-use desk_state::{Desk, EditFault, KeptFault};
+use desk_state::{Desk, EditFault};
 use line_text::LineText;
 use policy_keeper::Keeper;
 use rule_edits::Edit;
@@ -29,7 +29,7 @@ pub(crate) fn reply_onto<K: Keeper>(
     out: &mut Vec<u8>,
 ) -> Result<bool, AllocError>
     requires mirrors { Mirrors (K.told keeper.old) (tables desk.old) }
-    ensures replies { (o : Opening) (h : List Event) → Stands desk.old o h → IfOk result (λ refused. Replies o h (edit_of edit.now) desk.new out.old.items out.new.items refused) }
+    ensures replies { (o : Opening) (h : List Event) → Stands desk.old o h → IfOk result (λ refused. Replies o h (edit_of edit.now) desk.new (K.faults keeper.old) (K.faults keeper.new) out.old.items out.new.items refused) }
     ensures unchanged { (o : Opening) (h : List Event) → Stands desk.old o h → OnErr result (Stands desk.new o h) }
     ensures kept { OnErr result (out.new.items ≡ out.old.items) }
     ensures mirrors { Mirrors (K.told keeper.new) (tables desk.new) }
@@ -52,19 +52,19 @@ fn reply_into<K: Keeper>(
 ) -> Result<(), AllocError>
     requires mirrors { Mirrors (K.told keeper.old) (tables desk.old) }
     requires empty { line_bytes reply.old ≡ [] }
-    ensures replies { (o : Opening) (h : List Event) → Stands desk.old o h → OnOk result (Came o h (edit_of edit.now) desk.new (line_bytes reply.new)) }
+    ensures replies { (o : Opening) (h : List Event) → Stands desk.old o h → OnOk result (Came o h (edit_of edit.now) desk.new (K.faults keeper.old) (K.faults keeper.new) (line_bytes reply.new)) }
     ensures unchanged { (o : Opening) (h : List Event) → Stands desk.old o h → OnErr result (Stands desk.new o h) }
     ensures short { length (line_bytes reply.new) < REPLY_ROOM }
     ensures mirrors { Mirrors (K.told keeper.new) (tables desk.new) }
     ensures telling { IsSome (K.told keeper.new) → IsSome (K.told keeper.old) }
     ensures later { K.faults keeper.old ≤ K.faults keeper.new }
 {
-    match desk.edit_kept(alloc, keeper, edit) {
+    match desk.edit(alloc, keeper, edit) {
         Ok(answer) => {
             answer.line_into(reply);
             Ok(())
         }
-        Err(KeptFault::Edit(EditFault::OutOfMemory)) => Err(AllocError),
+        Err(EditFault::OutOfMemory) => Err(AllocError),
         Err(fault) => {
             fault.line_into(reply);
             Ok(())

@@ -1,11 +1,12 @@
 use Rattle.std.proofs.Common.{[]}
 use Rattle.table_commands.specs.EditSays.{SaysEdit}
+use Rattle.desk_state.specs.Failures.{kept_by}
 use Rattle.run_commands.proofs.Over.{does, reply_uttered}
 use Rattle.run_commands.proofs.on_tables.edit_over.Goals as goal
 
 pub returns-clause-says : goal.returns-clause-says
 returns-clause-says g c o stands =
-    does (g.K.Keeper.told c.edit_line-said.new.keeper) o c.edit_line-said.new.desk (λ after. SaysEdit o [] c.args.line.now c.in_ok-said.field-0.status c.in_ok-said.field-0.text after)
+    does (kept_by (g.K.Keeper.told c.edit_line-said.new.keeper) (g.K.Keeper.faults c.args.keeper.now) (g.K.Keeper.faults c.edit_line-said.new.keeper)) o c.edit_line-said.new.desk (λ after. SaysEdit o [] c.args.line.now c.in_ok-said.field-0.status c.in_ok-said.field-0.text after)
     c.in_ok-said.ensures.mirrors (c.in_ok-said.ensures.says o [] stands)
 
 pub returns-clause-spoken : goal.returns-clause-spoken

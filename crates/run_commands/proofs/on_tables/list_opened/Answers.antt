@@ -1,5 +1,6 @@
 use Rattle.std.proofs.Common.{None, IfOk, subst}
 use Rattle.command_words.specs.Table as table
+use Rattle.desk_state.specs.Failures.{kept_by}
 use Rattle.run_commands.specs.Says.{TableSays, told_through}
 use Rattle.run_commands.proofs.Over.{over_desk, unopened_over, unopened_spoken, spoken_uttered}
 use Rattle.run_commands.proofs.Through.{opening_through}
@@ -8,13 +9,13 @@ use Rattle.run_commands.proofs.on_tables.list_opened.Goals as goal
 pub returns-in-Ok-clause-says : goal.returns-in-Ok-clause-says
 returns-in-Ok-clause-says g c =
     let opened = c.in-Ok.ensures.opened in
-    over_desk (g.H.Shelf.files c.args.shelf.now) None (told_through (g.K.Keeper.told c.args.keeper.now) (g.K.Keeper.told c.open_desk.new.keeper)) (TableSays (g.H.Shelf.files c.args.shelf.now) (g.K.Keeper.told c.open_desk.new.keeper) (table.list)) opened.opening c.list_over.result
+    over_desk (g.H.Shelf.files c.args.shelf.now) None (told_through (g.K.Keeper.told c.args.keeper.now) (g.K.Keeper.told c.open_desk.new.keeper)) (TableSays (g.H.Shelf.files c.args.shelf.now) (kept_by (g.K.Keeper.told c.open_desk.new.keeper) (g.K.Keeper.faults c.args.keeper.now) (g.K.Keeper.faults c.open_desk.new.keeper)) (table.list)) opened.opening c.list_over.result
     (opening_through (g.H.Shelf.files c.args.shelf.now) None (g.K.Keeper.told c.args.keeper.now) (g.K.Keeper.told c.open_desk.new.keeper) (g.K.Keeper.told c.open_desk.new.keeper) opened.opening c.in-Ok.ensures.same (λ told. told) opened.is_opening)
     (c.list_over.ensures.says opened.opening opened.stands)
 
 pub returns-in-Err-clause-says : goal.returns-in-Err-clause-says
 returns-in-Err-clause-says g c =
-    unopened_over (g.H.Shelf.files c.args.shelf.now) None (g.K.Keeper.told c.args.keeper.now) (g.K.Keeper.told c.open_desk.new.keeper) (TableSays (g.H.Shelf.files c.args.shelf.now) (g.K.Keeper.told c.open_desk.new.keeper) (table.list)) c.in-Err.why c.unopened.result c.in-Err.ensures.same c.in-Err.ensures.unopened c.unopened.ensures
+    unopened_over (g.H.Shelf.files c.args.shelf.now) None (g.K.Keeper.told c.args.keeper.now) (g.K.Keeper.told c.open_desk.new.keeper) (TableSays (g.H.Shelf.files c.args.shelf.now) (kept_by (g.K.Keeper.told c.open_desk.new.keeper) (g.K.Keeper.faults c.args.keeper.now) (g.K.Keeper.faults c.open_desk.new.keeper)) (table.list)) c.in-Err.why c.unopened.result c.in-Err.ensures.same c.in-Err.ensures.unopened c.unopened.ensures
 
 pub returns-in-Err-clause-spoken : goal.returns-in-Err-clause-spoken
 returns-in-Err-clause-spoken g c =

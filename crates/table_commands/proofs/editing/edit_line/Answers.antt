@@ -8,7 +8,7 @@ pub returns-in-Err : goal.returns-in-Err
 returns-in-Err g c =
     let known : c.in-Err.fault ≢ OutOfMemory = search rules in
     record {
-      says = λ o h stands. line_refused o h c.args.line.now (fault_of c.in-Err.fault) c.args.desk.now c.refused.result (c.in-Err.ensures known) stands c.refused.ensures;
+      says = λ o h stands. line_refused o h c.args.line.now (fault_of c.in-Err.fault) c.args.desk.now (g.K.Keeper.faults c.args.keeper.now) c.refused.result (c.in-Err.ensures known) stands c.refused.ensures;
       unchanged = λ o h stands. on_err c.refused.result stands;
       mirrors = c.requires.mirrors;
       telling = λ told. told;

@@ -8,7 +8,7 @@ use Rattle.table_commands.proofs.importing.rows_onto.Given as goal
 
 abbrev pub invariant-loop-edit : goal.invariant-loop-edit
 invariant-loop-edit g l = record {
-  replies : (o : Opening) (h : List Event) → Stands l.fn.desk o h → AllReply o h (edits_of (take l.edit-index l.edits)) l.desk l.text.items l.any;
+  replies : (o : Opening) (h : List Event) → Stands l.fn.desk o h → AllReply o h (edits_of (take l.edit-index l.edits)) l.desk (g.K.Keeper.faults l.fn.keeper) (g.K.Keeper.faults l.keeper) l.text.items l.any;
   mirrors : Mirrors (g.K.Keeper.told l.keeper) (tables l.desk);
   telling : IsSome (g.K.Keeper.told l.keeper) → IsSome (g.K.Keeper.told l.fn.keeper);
   later : g.K.Keeper.faults l.fn.keeper ≤ g.K.Keeper.faults l.keeper;
