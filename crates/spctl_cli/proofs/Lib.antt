@@ -1,9 +1,11 @@
 mod Concluded
+mod Deskless
 mod EndsOfSessions
 mod Past
 mod Rehearsed
 mod Runs
 mod Starved
+mod Tables
 mod WithoutDesk
 mod UsageAlone
 mod WouldSay

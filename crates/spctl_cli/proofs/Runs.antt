@@ -18,7 +18,7 @@ use Rattle.run_commands.specs.Says.{FilesSay}
 use Rattle.spctl_cli.specs.Conclusions.{Concludes}
 use Rattle.desk_state.specs.Failures.{Kept}
 use Rattle.spctl_cli.specs.Headline.{IsSession}
-use Rattle.spctl_cli.specs.Ends.{SessionEnds, UsageEnds, IsSpokenEnd, SpokenEnd, OpenedEnd, SessionRun, CommandEnds, RunEnds, GavePast}
+use Rattle.spctl_cli.specs.Ends.{SessionEnds, UsageEnds, IsSpokenEnd, IsRehearsed, SpokenEnd, OpenedEnd, SessionRun, CommandEnds, RunEnds, GavePast}
 use Rattle.spctl_cli.proofs.UsageAlone.{usage_alone}
 use Rattle.spctl_cli.proofs.Past.{session_past, usage_past, spoken_past}
 
@@ -29,7 +29,7 @@ module _ (files : Option (List File)) (moments : Option (List ℕ)) (rows : Told
   not_usage facts session (inr e) is = subst IsSpokenEnd is e.spoken.end
   not_usage facts (on_files command) e is = subst IsSpokenEnd is e.end
   not_usage facts (on_tables command) e is = subst IsSpokenEnd is e.end
-  not_usage facts (rehearse steps) e is = subst IsSpokenEnd is e.end
+  not_usage facts (rehearse steps) e is = subst IsSpokenEnd is e.spoken.end
 
   none_or_some : (line : CommandLine) → ◌≡◌ {A = Option CommandLine} (Some line) None → ⊥
   none_or_some line e = (cc)
@@ -44,7 +44,7 @@ module _ (files : Option (List File)) (moments : Option (List ℕ)) (rows : Told
   command_past facts session (inr e) told a b = spoken_past (SaysUnopened files facts rows) left now written sent status e.spoken
   command_past facts (on_files command) e told a b = spoken_past _ left now written sent status e
   command_past facts (on_tables command) e told a b = spoken_past _ left now written sent status e
-  command_past facts (rehearse steps) e told a b = spoken_past _ left now written sent status e
+  command_past facts (rehearse steps) e told a b = spoken_past _ left now written sent status e.spoken
 
   -- a run is too long exactly where its source gave a byte past the limits
   pub past_exactly : (line : Option CommandLine) → RunEnds files moments rows kept line left now written sent status → IsSome left → status ≢ WriteFault → status ≢ OutOfMemory → ((status ≡ SessionTooLong) ↔ GavePast left now)
@@ -127,7 +127,7 @@ session_is_done apart files (Some raw) kept facts o left now written sent status
     spoken_is_starved apart files raw facts o written sent status opening e.spoken.end e.spoken.concludes b f e.unasked h
 
 -- without a facts file a run begins at the same place whatever files there are
-without_files : (files : Option (List File)) (rows : Told) (o : Opening) → IsOpening files None rows o → IsOpening (Some []) None rows o
+pub without_files : (files : Option (List File)) (rows : Told) (o : Opening) → IsOpening files None rows o → IsOpening (Some []) None rows o
 without_files files rows o opening = record {
   facts = opening.facts;
   facts_are = opening.facts_are;
@@ -143,3 +143,21 @@ session_without_facts_is_done apart files None kept o left now written sent stat
 session_without_facts_is_done apart files (Some raw) kept o left now written sent status told opening (inl e) a b d f h = opened_is_done kept e.opening begun left now written sent status e.ends a b d
 session_without_facts_is_done apart files (Some raw) kept o left now written sent status told opening (inr e) a b d f h =
     spoken_is_starved apart [] raw None o written sent status (without_files files (Some raw) o opening) e.spoken.end e.spoken.concludes b f e.unasked h
+
+-- a rehearsal that the sink doesn't stop ends well or out of memory
+pub rehearsal_is_done : (status : Status) → IsRehearsed status → status ≢ WriteFault → (status ≡ Fine) ⊎ (status ≡ OutOfMemory)
+rehearsal_is_done Fine alone a = inl refl
+rehearsal_is_done Denied alone a = absurd alone
+rehearsal_is_done Usage alone a = absurd alone
+rehearsal_is_done ReadFault alone a = absurd alone
+rehearsal_is_done WriteFault alone a = absurd (a refl)
+rehearsal_is_done ShelfFault alone a = absurd alone
+rehearsal_is_done ClockFault alone a = absurd alone
+rehearsal_is_done KeeperFault alone a = absurd alone
+rehearsal_is_done FileMissing alone a = absurd alone
+rehearsal_is_done FileTooLong alone a = absurd alone
+rehearsal_is_done BadFacts alone a = absurd alone
+rehearsal_is_done BadStore alone a = absurd alone
+rehearsal_is_done Refused alone a = absurd alone
+rehearsal_is_done SessionTooLong alone a = absurd alone
+rehearsal_is_done OutOfMemory alone a = inr refl

@@ -26,7 +26,7 @@ module _ (files : Option (List File)) (moments : Option (List ℕ)) (rows : Told
   command_starved line session e = subst (λ c. CommandEnds files moments rows kept line.facts c left left written written OutOfMemory) (sym e) (inr (record { spoken = starved _ left written; unasked = clock_is_not_asked }))
   command_starved line (on_files command) e = subst (λ c. CommandEnds files moments rows kept line.facts c left left written written OutOfMemory) (sym e) (starved _ left written)
   command_starved line (on_tables command) e = subst (λ c. CommandEnds files moments rows kept line.facts c left left written written OutOfMemory) (sym e) (starved _ left written)
-  command_starved line (rehearse steps) e = subst (λ c. CommandEnds files moments rows kept line.facts c left left written written OutOfMemory) (sym e) (starved _ left written)
+  command_starved line (rehearse steps) e = subst (λ c. CommandEnds files moments rows kept line.facts c left left written written OutOfMemory) (sym e) (record { spoken = starved _ left written; alone = tt })
 
   pub run_starved : (line : Option CommandLine) → RunEnds files moments rows kept line left left written written OutOfMemory
   run_starved None = record { unread = refl; put = appends_nothing written }

@@ -29,15 +29,15 @@ use Rattle.spctl_cli.specs.Conclusions.{Concludes}
 same_bytes : (found : Option (List ℕ)) (xs ys : List ℕ) → found ≡ Some xs → found ≡ Some ys → xs ≡ ys
 same_bytes found xs ys a b = (cc)
 
-not_both : (found : Option (List ℕ)) (xs : List ℕ) → found ≡ None → found ≡ Some xs → ⊥
+pub not_both : (found : Option (List ℕ)) (xs : List ℕ) → found ≡ None → found ≡ Some xs → ⊥
 not_both found xs a b = (cc)
 
 -- no file of that name, or one that is longer
-abbrev IsWithout : List File → List ℕ → ℕ → Status → Type 0
+abbrev pub IsWithout : List File → List ℕ → ℕ → Status → Type 0
 IsWithout files name limit status =
     ((status ≡ FileMissing) × (file_named files name ≡ None)) ⊎ ((status ≡ FileTooLong) × ((bytes : List ℕ) × (file_named files name ≡ Some bytes) × (limit < length bytes)))
 
-without : (files : List File) (name : List ℕ) (limit : ℕ) (status : Status) (text : List ℕ) → SaysWithoutFile (Some files) name limit status text → IsWithout files name limit status
+pub without : (files : List File) (name : List ℕ) (limit : ℕ) (status : Status) (text : List ℕ) → SaysWithoutFile (Some files) name limit status text → IsWithout files name limit status
 without files name limit Fine text h = absurd h
 without files name limit Denied text h = absurd h
 without files name limit Usage text h = absurd h
@@ -55,7 +55,7 @@ without files name limit SessionTooLong text h = absurd h
 without files name limit OutOfMemory text h = absurd h
 
 -- a file within the limit is neither missing nor too long
-there : (files : List File) (name : List ℕ) (limit : ℕ) (status : Status) (bytes : List ℕ) → IsWithout files name limit status → file_named files name ≡ Some bytes → length bytes ≤ limit → ⊥
+pub there : (files : List File) (name : List ℕ) (limit : ℕ) (status : Status) (bytes : List ℕ) → IsWithout files name limit status → file_named files name ≡ Some bytes → length bytes ≤ limit → ⊥
 there files name limit status bytes (inl missing) found short = not_both (file_named files name) bytes missing.1 found
 there files name limit status bytes (inr long) found short =
     let same = ap length (same_bytes (file_named files name) long.1.0 bytes long.1.1 found) in
@@ -140,7 +140,7 @@ module _ (apart : OpenedIsNotUnopened) (files : List File) (moments : Option (Li
   work_is_done rows command written sent SessionTooLong has told desk a b d f e = inl (worked rows command SessionTooLong e.text has told desk e.tells)
   work_is_done rows command written sent OutOfMemory has told desk a b d f e = inr refl
 
-said_with : (Says : Status → List ℕ → Type 0) (written sent : Option (List ℕ)) (ended : Status) → IsUncut ended → Concludes Says written sent ended → (text : List ℕ) × Says ended text
+pub said_with : (Says : Status → List ℕ → Type 0) (written sent : Option (List ℕ)) (ended : Status) → IsUncut ended → Concludes Says written sent ended → (text : List ℕ) × Says ended text
 said_with Says written sent Fine uncut e = (e.text, e.tells)
 said_with Says written sent Denied uncut e = (e.text, e.tells)
 said_with Says written sent Usage uncut e = (e.text, e.tells)
@@ -158,7 +158,7 @@ said_with Says written sent SessionTooLong uncut e = (e.text, e.tells)
 said_with Says written sent OutOfMemory uncut e = absurd uncut
 
 -- a status comes exactly where something would be said with it, if nothing else would be said then
-exactly : (Says : Status → List ℕ → Type 0) (written sent : Option (List ℕ)) (ended status : Status) → ((said other : List ℕ) → Says status said → Says ended other → status ≡ ended) → IsUncut ended → Concludes Says written sent ended
+pub exactly : (Says : Status → List ℕ → Type 0) (written sent : Option (List ℕ)) (ended status : Status) → ((said other : List ℕ) → Says status said → Says ended other → status ≡ ended) → IsUncut ended → Concludes Says written sent ended
     → ((ended ≡ status) ↔ ((text : List ℕ) × Says status text))
 exactly Says written sent ended status one uncut e =
     let said = said_with Says written sent ended uncut e in

@@ -82,6 +82,18 @@ pub record SpokenEnd (Says : Status → List ℕ → Type 0) (left now written s
   pub end : IsSpokenEnd status
   pub concludes : Concludes Says written sent status
 
+-- a rehearsal that ends asked for nothing but its output and memory
+abbrev pub IsRehearsed : Status → Type 0
+IsRehearsed Fine = Unit {0}
+IsRehearsed WriteFault = Unit {0}
+IsRehearsed OutOfMemory = Unit {0}
+IsRehearsed other = ⊥
+
+-- how a rehearsal ends: what is said was written; no device but the sink is asked
+pub record RehearsedEnd (steps : ℕ) (left now written sent : Option (List ℕ)) (status : Status) : Type 0 where
+  pub spoken : SpokenEnd (SaysRehearsal steps) left now written sent status
+  pub alone : IsRehearsed status
+
 -- how a session ends over a desk that is opened where its run begins
 pub record OpenedEnd (files : Option (List File)) (rows : Told) (kept : Kept) (facts : Option (List ℕ)) (left now written sent : Option (List ℕ)) (status : Status) : Type 0 where
   pub opening : Opening
@@ -106,8 +118,7 @@ CommandEnds files moments rows kept facts (on_files command) left now written se
     SpokenEnd (FilesSay files moments rows facts command) left now written sent status
 CommandEnds files moments rows kept facts (on_tables command) left now written sent status =
     SpokenEnd (TablesSay files rows kept command) left now written sent status
-CommandEnds files moments rows kept facts (rehearse steps) left now written sent status =
-    SpokenEnd (SaysRehearsal steps) left now written sent status
+CommandEnds files moments rows kept facts (rehearse steps) left now written sent status = RehearsedEnd steps left now written sent status
 
 -- and by its words, which may be no command
 abbrev pub RunEnds : Option (List File) → Option (List ℕ) → Told → Kept → Option CommandLine → Option (List ℕ) → Option (List ℕ) → Option (List ℕ) → Option (List ℕ) → Status → Type 0

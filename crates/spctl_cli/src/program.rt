@@ -11,9 +11,9 @@ ghost use Rattle.session_model.specs.Session.{begun};
 ghost use Rattle.desk_opening.specs.Opens.{IsOpening};
 ghost use Rattle.command_words.specs.Table as model;
 ghost use Rattle.command_words.specs.Views.{texts};
-ghost use Rattle.run_commands.specs.Laws.{TellsRows};
+ghost use Rattle.run_commands.specs.Laws.{IsTimeless, TellsRows};
 ghost use Rattle.run_commands.specs.Says.{told_through};
-ghost use Rattle.spctl_cli.specs.Causes.{HasDesk, HasFiles, IsUncut, IsWorked, WouldSay};
+ghost use Rattle.spctl_cli.specs.Causes.{HasDesk, HasFiles, HasImport, IsCarriedOut, IsDeskless, IsUncut, IsUndone, IsWorked, TablesWouldSay, TellsFacts, WouldNotOpen, WouldSay};
 ghost use Rattle.desk_state.specs.Failures.{kept_by};
 ghost use Rattle.spctl_cli.specs.Headline.{IsSession};
 ghost use Rattle.spctl_cli.specs.Ends.{RunEnds, GavePast};
@@ -23,7 +23,7 @@ use crate::obeying::obey;
 use desk_opening::laws::a_run_begins_or_not;
 use gk_io::{Clock, Shelf, Sink, Source};
 use policy_keeper::Keeper;
-use run_commands::laws::each_command_has_one_status;
+use run_commands::laws::{each_command_has_one_status, each_table_command_has_one_status};
 use run_status::Status;
 use std::alloc::Global;
 
@@ -76,49 +76,40 @@ pub fn run<S: Source, W: Sink, H: Shelf, K: Keeper, C: Clock>(
         → ((result ≡ Status.ClockFault) ↔ Rose (C.faults clock.old) (C.faults clock.new)) }
 
     // What a command on files says comes exactly where it would be said over the files that the shelf tells, and over the
-    // keeper's rows where it asks for them, unless a device fails or memory runs out.
-    ensures missing_cause { (files : List File) (store : List ℕ) (facts : Option (List ℕ)) (command : model.FileCommand)
+    // keeper's rows where it asks for them, unless a device fails or memory runs out; Fine and Denied where the clock tells
+    // its moments too.
+    ensures files_cause { (files : List File) (store : List ℕ) (facts : Option (List ℕ)) (command : model.FileCommand) (status : Status)
         → H.files shelf.old ≡ Some files → asked (texts words.now) ≡ Some (line_on store facts (model.on_files command))
-        → TellsRows (told_through (K.told keeper.old) (K.told keeper.new)) command → IsUncut result
-        → ((result ≡ Status.FileMissing) ↔ WouldSay files (C.moments clock.old) (told_through (K.told keeper.old) (K.told keeper.new)) facts command Status.FileMissing) }
-    ensures file_too_long_cause { (files : List File) (store : List ℕ) (facts : Option (List ℕ)) (command : model.FileCommand)
-        → H.files shelf.old ≡ Some files → asked (texts words.now) ≡ Some (line_on store facts (model.on_files command))
-        → TellsRows (told_through (K.told keeper.old) (K.told keeper.new)) command → IsUncut result
-        → ((result ≡ Status.FileTooLong) ↔ WouldSay files (C.moments clock.old) (told_through (K.told keeper.old) (K.told keeper.new)) facts command Status.FileTooLong) }
-    ensures bad_facts_cause { (files : List File) (store : List ℕ) (facts : Option (List ℕ)) (command : model.FileCommand)
-        → H.files shelf.old ≡ Some files → asked (texts words.now) ≡ Some (line_on store facts (model.on_files command))
-        → TellsRows (told_through (K.told keeper.old) (K.told keeper.new)) command → IsUncut result
-        → ((result ≡ Status.BadFacts) ↔ WouldSay files (C.moments clock.old) (told_through (K.told keeper.old) (K.told keeper.new)) facts command Status.BadFacts) }
-    ensures bad_store_cause { (files : List File) (store : List ℕ) (facts : Option (List ℕ)) (command : model.FileCommand)
-        → H.files shelf.old ≡ Some files → asked (texts words.now) ≡ Some (line_on store facts (model.on_files command))
-        → TellsRows (told_through (K.told keeper.old) (K.told keeper.new)) command → IsUncut result
-        → ((result ≡ Status.BadStore) ↔ WouldSay files (C.moments clock.old) (told_through (K.told keeper.old) (K.told keeper.new)) facts command Status.BadStore) }
-    ensures refused_cause { (files : List File) (store : List ℕ) (facts : Option (List ℕ)) (command : model.FileCommand)
-        → H.files shelf.old ≡ Some files → asked (texts words.now) ≡ Some (line_on store facts (model.on_files command))
-        → TellsRows (told_through (K.told keeper.old) (K.told keeper.new)) command → IsUncut result
-        → ((result ≡ Status.Refused) ↔ WouldSay files (C.moments clock.old) (told_through (K.told keeper.old) (K.told keeper.new)) facts command Status.Refused) }
-    ensures denied_cause { (files : List File) (moments : List ℕ) (store : List ℕ) (facts : Option (List ℕ)) (command : model.FileCommand)
+        → TellsRows (told_through (K.told keeper.old) (K.told keeper.new)) command → IsTimeless status → IsUncut result
+        → ((result ≡ status) ↔ WouldSay files (C.moments clock.old) (told_through (K.told keeper.old) (K.told keeper.new)) facts command status) }
+    ensures told_cause { (files : List File) (moments : List ℕ) (store : List ℕ) (facts : Option (List ℕ)) (command : model.FileCommand) (status : Status)
         → H.files shelf.old ≡ Some files → C.moments clock.old ≡ Some moments → asked (texts words.now) ≡ Some (line_on store facts (model.on_files command))
         → TellsRows (told_through (K.told keeper.old) (K.told keeper.new)) command → IsUncut result
-        → ((result ≡ Status.Denied) ↔ WouldSay files (Some moments) (told_through (K.told keeper.old) (K.told keeper.new)) facts command Status.Denied) }
+        → ((result ≡ status) ↔ WouldSay files (Some moments) (told_through (K.told keeper.old) (K.told keeper.new)) facts command status) }
+
+    // So does what a session says that has no desk, and what a command on the rules says that did nothing.
+    ensures deskless_cause { (store : List ℕ) (facts : Option (List ℕ)) (status : Status)
+        → asked (texts words.now) ≡ Some (line_on store facts model.session)
+        → TellsFacts (H.files shelf.old) facts → IsSome (told_through (K.told keeper.old) (K.told keeper.new))
+        → IsDeskless status → IsUncut result
+        → ((result ≡ status) ↔ WouldNotOpen (H.files shelf.old) (told_through (K.told keeper.old) (K.told keeper.new)) facts status) }
+    ensures undone_cause { (files : List File) (store : List ℕ) (facts : Option (List ℕ)) (command : model.TableCommand) (status : Status)
+        → H.files shelf.old ≡ Some files → asked (texts words.now) ≡ Some (line_on store facts (model.on_tables command))
+        → IsSome (told_through (K.told keeper.old) (K.told keeper.new)) → IsUndone status → IsUncut result
+        → ((result ≡ status) ↔ TablesWouldSay files (told_through (K.told keeper.old) (K.told keeper.new)) command status) }
+
+    // And so does all that it says, where the keeper doesn't fail.
+    ensures tables_cause { (files : List File) (store : List ℕ) (facts : Option (List ℕ)) (command : model.TableCommand) (status : Status)
+        → H.files shelf.old ≡ Some files → asked (texts words.now) ≡ Some (line_on store facts (model.on_tables command))
+        → IsSome (told_through (K.told keeper.old) (K.told keeper.new)) → ¬ Rose (K.faults keeper.old) (K.faults keeper.new)
+        → status ≢ Status.OutOfMemory → IsUncut result
+        → ((result ≡ status) ↔ TablesWouldSay files (told_through (K.told keeper.old) (K.told keeper.new)) command status) }
 
     // A session within its limits whose desk begins somewhere, over devices that don't fail, ends well or out of memory.
-    ensures complete { (files : List File) (bytes : List ℕ) (store : List ℕ) (facts : Option (List ℕ)) (o : Opening)
+    ensures complete { (bytes : List ℕ) (store : List ℕ) (facts : Option (List ℕ)) (o : Opening)
         → asked (texts words.now) ≡ Some (line_on store facts model.session)
-        → H.files shelf.old ≡ Some files → IsSome (told_through (K.told keeper.old) (K.told keeper.new))
-        → IsOpening (Some files) facts (told_through (K.told keeper.old) (K.told keeper.new)) o
-        → S.left input.old ≡ Some bytes → IsWithin bytes
-        → ¬ Rose (S.faults input.old) (S.faults input.new)
-        → ¬ Rose (W.faults output.old) (W.faults output.new)
-        → ¬ Rose (H.faults shelf.old) (H.faults shelf.new)
-        → ¬ Rose (K.faults keeper.old) (K.faults keeper.new)
-        → (result ≡ Status.Fine) ⊎ (result ≡ Status.OutOfMemory) }
-
-    // The same without a facts file, whatever the shelf tells.
-    ensures complete_without_facts { (bytes : List ℕ) (store : List ℕ) (o : Opening)
-        → asked (texts words.now) ≡ Some (line_on store None model.session)
-        → IsSome (told_through (K.told keeper.old) (K.told keeper.new))
-        → IsOpening (H.files shelf.old) None (told_through (K.told keeper.old) (K.told keeper.new)) o
+        → TellsFacts (H.files shelf.old) facts → IsSome (told_through (K.told keeper.old) (K.told keeper.new))
+        → IsOpening (H.files shelf.old) facts (told_through (K.told keeper.old) (K.told keeper.new)) o
         → S.left input.old ≡ Some bytes → IsWithin bytes
         → ¬ Rose (S.faults input.old) (S.faults input.new)
         → ¬ Rose (W.faults output.old) (W.faults output.new)
@@ -138,6 +129,24 @@ pub fn run<S: Source, W: Sink, H: Shelf, K: Keeper, C: Clock>(
         → ¬ Rose (W.faults output.old) (W.faults output.new)
         → IsWorked result ⊎ (result ≡ Status.OutOfMemory) }
 
+    // A command on the rules whose file is there and whose desk begins somewhere, over devices that don't fail, is carried out
+    // or is out of memory.
+    ensures complete_on_tables { (files : List File) (store : List ℕ) (facts : Option (List ℕ)) (command : model.TableCommand) (o : Opening)
+        → asked (texts words.now) ≡ Some (line_on store facts (model.on_tables command))
+        → H.files shelf.old ≡ Some files → IsSome (told_through (K.told keeper.old) (K.told keeper.new))
+        → IsOpening (Some files) None (told_through (K.told keeper.old) (K.told keeper.new)) o → HasImport files command
+        → ¬ Rose (H.faults shelf.old) (H.faults shelf.new)
+        → ¬ Rose (K.faults keeper.old) (K.faults keeper.new)
+        → ¬ Rose (C.faults clock.old) (C.faults clock.new)
+        → ¬ Rose (W.faults output.old) (W.faults output.new)
+        → IsCarriedOut result ⊎ (result ≡ Status.OutOfMemory) }
+
+    // A rehearsal ends well or out of memory, unless the sink fails.
+    ensures complete_on_rehearsal { (store : List ℕ) (facts : Option (List ℕ)) (steps : ℕ)
+        → asked (texts words.now) ≡ Some (line_on store facts (model.rehearse steps))
+        → ¬ Rose (W.faults output.old) (W.faults output.new)
+        → (result ≡ Status.Fine) ⊎ (result ≡ Status.OutOfMemory) }
+
     // Devices tell afterwards what they told before, and their counts don't fall.
     ensures input_telling { is_some (S.left input.new) ≡ is_some (S.left input.old) }
     ensures output_telling { is_some (W.written output.new) ≡ is_some (W.written output.old) }
@@ -151,6 +160,7 @@ pub fn run<S: Source, W: Sink, H: Shelf, K: Keeper, C: Clock>(
     ensures clock_later { C.faults clock.old ≤ C.faults clock.new }
 {
     each_command_has_one_status();
+    each_table_command_has_one_status();
     a_run_begins_or_not();
     obey(alloc, words, input, output, shelf, keeper, clock)
 }

@@ -7,8 +7,7 @@ ghost use Rattle.gk_io.specs.Told.{IsFlushed};
 ghost use Rattle.command_words.specs.Views.{file_view, table_view, text_of};
 ghost use Rattle.desk_state.specs.Failures.{kept_by};
 ghost use Rattle.run_commands.specs.Says.{FilesSay, TablesSay, told_through};
-ghost use Rattle.rehearse_command.specs.Rehearsing.{SaysRehearsal};
-ghost use Rattle.spctl_cli.specs.Ends.{SpokenEnd, UsageEnds};
+ghost use Rattle.spctl_cli.specs.Ends.{RehearsedEnd, SpokenEnd, UsageEnds};
 
 use crate::conclusion::conclude;
 use crate::last_line::end_with;
@@ -89,7 +88,7 @@ pub(crate) fn on_tables<W: Sink, H: Shelf, K: Keeper>(
 /// Writes what a rehearsal says.
 pub(crate) fn on_rehearsal<W: Sink>(alloc: Global, steps: u32, output: &mut W) -> Status
     ensures ends { (left : Option (List ℕ))
-        → SpokenEnd (SaysRehearsal steps) left left (W.written output.old) (W.written output.new) result }
+        → RehearsedEnd steps left left (W.written output.old) (W.written output.new) result }
     ensures flushed { result ≢ Status.WriteFault → IsFlushed (W.flushed output.old) (W.written output.old)
         → IsFlushed (W.flushed output.new) (W.written output.new) }
     ensures output_telling { is_some (W.written output.new) ≡ is_some (W.written output.old) }
@@ -97,9 +96,6 @@ pub(crate) fn on_rehearsal<W: Sink>(alloc: Global, steps: u32, output: &mut W) -
     ensures write_cause { result ≡ Status.WriteFault → Rose (W.faults output.old) (W.faults output.new) }
     ensures write_steady { result ≢ Status.WriteFault → W.faults output.new ≡ W.faults output.old }
     ensures output_later { W.faults output.old ≤ W.faults output.new }
-    ensures no_shelf { result ≢ Status.ShelfFault }
-    ensures no_clock { result ≢ Status.ClockFault }
-    ensures no_keeper { result ≢ Status.KeeperFault }
 {
     match rehearse(alloc, steps) {
         Ok(said) => end_with(output, said.text.as_slice(), said.status),

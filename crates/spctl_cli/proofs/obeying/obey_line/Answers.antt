@@ -4,7 +4,7 @@ use Rattle.command_words.specs.Table as table
 use Rattle.command_words.specs.Views.{line_view, command_view, file_view, table_view}
 use Rattle.run_commands.specs.Says.{told_through}
 use Rattle.desk_state.specs.Failures.{kept_by}
-use Rattle.spctl_cli.specs.Ends.{IsSpokenEnd}
+use Rattle.spctl_cli.specs.Ends.{IsRehearsed, IsSpokenEnd}
 use Rattle.spctl_cli.proofs.Runs.{by_command}
 use Rattle.spctl_cli.proofs.obeying.obey_line.Goals as goal
 
@@ -45,16 +45,16 @@ returns-in-Rehearse-clause-ends g c =
     (table.rehearse c.in-Rehearse.steps) (ap command_view c.in-Rehearse.is) (c.on_rehearsal.ensures.ends left)
 
 pub returns-in-Rehearse-clause-within : goal.returns-in-Rehearse-clause-within
-returns-in-Rehearse-clause-within g c bytes left within is = subst IsSpokenEnd is (c.on_rehearsal.ensures.ends (g.S.Source.left c.args.input.now)).end
+returns-in-Rehearse-clause-within g c bytes left within is = subst IsSpokenEnd is (c.on_rehearsal.ensures.ends (g.S.Source.left c.args.input.now)).spoken.end
 
 pub returns-in-Rehearse-clause-read_cause : goal.returns-in-Rehearse-clause-read_cause
-returns-in-Rehearse-clause-read_cause g c is = absurd (subst IsSpokenEnd is (c.on_rehearsal.ensures.ends (g.S.Source.left c.args.input.now)).end)
+returns-in-Rehearse-clause-read_cause g c is = absurd (subst IsSpokenEnd is (c.on_rehearsal.ensures.ends (g.S.Source.left c.args.input.now)).spoken.end)
 
 pub returns-in-Rehearse-clause-shelf_cause : goal.returns-in-Rehearse-clause-shelf_cause
-returns-in-Rehearse-clause-shelf_cause g c is = absurd (c.on_rehearsal.ensures.no_shelf is)
+returns-in-Rehearse-clause-shelf_cause g c is = absurd (subst IsRehearsed is (c.on_rehearsal.ensures.ends (g.S.Source.left c.args.input.now)).alone)
 
 pub returns-in-Rehearse-clause-clock_cause : goal.returns-in-Rehearse-clause-clock_cause
-returns-in-Rehearse-clause-clock_cause g c is = absurd (c.on_rehearsal.ensures.no_clock is)
+returns-in-Rehearse-clause-clock_cause g c is = absurd (subst IsRehearsed is (c.on_rehearsal.ensures.ends (g.S.Source.left c.args.input.now)).alone)
 
 pub returns-in-Rehearse-clause-keeper_cause : goal.returns-in-Rehearse-clause-keeper_cause
-returns-in-Rehearse-clause-keeper_cause g c is = absurd (c.on_rehearsal.ensures.no_keeper is)
+returns-in-Rehearse-clause-keeper_cause g c is = absurd (subst IsRehearsed is (c.on_rehearsal.ensures.ends (g.S.Source.left c.args.input.now)).alone)

@@ -1,7 +1,7 @@
 use Rattle.std.proofs.Common.{subst}
 use Rattle.spctl_cli.specs.LastLines.{IsEndedBy}
 use Rattle.spctl_cli.proofs.Starved.{starved}
-use Rattle.spctl_cli.proofs.Rehearsed.{rehearsed, not_a_write_fault, not_the_shelf, not_the_clock, not_the_keeper}
+use Rattle.spctl_cli.proofs.Rehearsed.{rehearsed, not_a_write_fault}
 use Rattle.spctl_cli.proofs.speaking.on_rehearsal.Goals as goal
 
 pub end_with-requires : goal.end_with-requires
@@ -12,20 +12,5 @@ returns-in-Ok-clause-ends g c left =
     let put = subst (λ text. IsEndedBy c.in-Ok.said.status text (g.W.Sink.written c.args.output.now) (g.W.Sink.written c.end_with.new.output) c.end_with.result) c.as_slice.ensures c.end_with.ensures.put in
     rehearsed c.args.steps _ _ c.in-Ok.ensures left _ _ c.end_with.result put
 
-pub returns-in-Ok-clause-no_shelf : goal.returns-in-Ok-clause-no_shelf
-returns-in-Ok-clause-no_shelf g c =
-    let put = subst (λ text. IsEndedBy c.in-Ok.said.status text (g.W.Sink.written c.args.output.now) (g.W.Sink.written c.end_with.new.output) c.end_with.result) c.as_slice.ensures c.end_with.ensures.put in
-    not_the_shelf c.args.steps _ _ c.in-Ok.ensures _ _ c.end_with.result put
-
-pub returns-in-Ok-clause-no_clock : goal.returns-in-Ok-clause-no_clock
-returns-in-Ok-clause-no_clock g c =
-    let put = subst (λ text. IsEndedBy c.in-Ok.said.status text (g.W.Sink.written c.args.output.now) (g.W.Sink.written c.end_with.new.output) c.end_with.result) c.as_slice.ensures c.end_with.ensures.put in
-    not_the_clock c.args.steps _ _ c.in-Ok.ensures _ _ c.end_with.result put
-
-pub returns-in-Ok-clause-no_keeper : goal.returns-in-Ok-clause-no_keeper
-returns-in-Ok-clause-no_keeper g c =
-    let put = subst (λ text. IsEndedBy c.in-Ok.said.status text (g.W.Sink.written c.args.output.now) (g.W.Sink.written c.end_with.new.output) c.end_with.result) c.as_slice.ensures c.end_with.ensures.put in
-    not_the_keeper c.args.steps _ _ c.in-Ok.ensures _ _ c.end_with.result put
-
 pub returns-in-Err-clause-ends : goal.returns-in-Err-clause-ends
-returns-in-Err-clause-ends g c left = starved _ left _
+returns-in-Err-clause-ends g c left = record { spoken = starved _ left _; alone = tt }
