@@ -1,9 +1,9 @@
 -- Where no edit failed, edits have one reply each.
-use Rattle.std.proofs.Common.{◌≡◌, ◌≤◌, ◌<◌, arith, ℕ, ◌+◌, List, [], ◌∷◌, ◌++◌, length, Bool, true, false, Result, Ok, Err, inl, inr, refl, sym, ◌∙◌, ap, subst, length-append}
+use Rattle.std.proofs.Common.{◌≡◌, ◌≤◌, ◌<◌, arith, ℕ, ◌+◌, List, [], ◌∷◌, ◌++◌, length, true, Result, Ok, Err, inl, inr, refl, sym, ◌∙◌, ap, subst, length-append}
 use Rattle.std.specs.Prelude.{min, ◌-◌, ◌^◌}
-use Rattle.std.specs.List.{filter, list_any}
+use Rattle.std.specs.List.{filter}
 use Rattle.std.proofs.lemmas.List.Elements.{filter-append}
-use Rattle.gk_io.specs.Faults.{CanRise, Rose}
+use Rattle.gk_io.specs.Faults.{CanRise}
 use Rattle.req_tree.specs.Tree.{Tree}
 use Rattle.req_tokens.specs.declared.fault.TextFault.{TextFault}
 use Rattle.policy_model.specs.Contents.{Content, Edit}

@@ -1,16 +1,13 @@
 -- What a command on the rules says has one status, where no edit failed.
-use Rattle.std.proofs.Common.{◌≡◌, ◌≢◌, ◌≤◌, ℕ, ◌⊎◌, List, [], Option, None, Some, inl, inr, refl, sym, ap, ◌∙◌, subst}
-use Rattle.std.specs.Prelude.{IsSome}
+use Rattle.std.proofs.Common.{◌≡◌, ◌≢◌, ◌≤◌, ℕ, ◌⊎◌, List, [], None, Some, inl, inr, refl, sym, ap, ◌∙◌, subst}
 use Rattle.std.specs.List.{list_any}
 use Rattle.gk_io.specs.Shelf.{File, file_named}
 use Rattle.policy_model.specs.Contents.{Edit}
 use Rattle.policy_model.specs.History.{Event, Opening}
 use Rattle.store_model.specs.Raw.{RawTables}
-use Rattle.policy_keeper.specs.Told.{Told}
 use Rattle.desk_state.specs.Failures.{failures, Kept}
 use Rattle.run_status.specs.declared.status.Status.{Status}
 use Rattle.run_status.specs.declared.status.Status.TheVariants.{Fine, Denied, Usage, ReadFault, WriteFault, ShelfFault, ClockFault, KeeperFault, FileMissing, FileTooLong, BadFacts, BadStore, Refused, SessionTooLong, OutOfMemory}
-use Rattle.desk_opening.specs.Opens.{IsOpening, SaysUnopened}
 use Rattle.desk_opening.specs.Laws.{OneOpening, OpenedIsNotUnopened, UnopenedHasOneStatus}
 use Rattle.line_laws.specs.Laws.{LineAsksForOneEdit, EditHasNoFault}
 use Rattle.import_csv.specs.Laws.{ImportIsOne, ImportHasNoFault}

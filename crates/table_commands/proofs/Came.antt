@@ -1,5 +1,5 @@
 -- What one edit came to, by what the desk answered.
-use Rattle.std.proofs.Common.{◌≡◌, ◌≢◌, ℕ, List, [], ◌∷◌, ◌++◌, Result, Err, inl, inr, refl, ◌∙◌, ap}
+use Rattle.std.proofs.Common.{◌≡◌, ◌≢◌, ℕ, List, [], ◌∷◌, ◌++◌, Err, inl, inr, refl, ◌∙◌, ap}
 use Rattle.std.specs.Prelude.{IsSome, IsNone, IfSome, IsErrOf}
 use Rattle.gk_io.specs.Faults.{Rose}
 use Rattle.policy_model.specs.Contents.{Edit}
