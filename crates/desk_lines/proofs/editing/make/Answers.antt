@@ -1,11 +1,13 @@
 -- An edit leaves what is open, whether it is answered or the keeper failed.
-use Rattle.std.proofs.Common.{Err, ◌∷◌, [], ◌++◌, is_some, IsNone, refl, inl, inr, ◌∙◌, ap, subst}
+use Rattle.std.proofs.Common.{◌≡◌, ◌≢◌, Err, ◌∷◌, [], ◌++◌, is_some, IsNone, refl, inl, inr, ◌∙◌, ap, subst}
 use Rattle.std.proofs.lemmas.Result.{on_ok_weaker, on_err_weaker}
+use Rattle.line_text.specs.LineText.{line_bytes}
 use Rattle.policy_model.specs.Tables.{Tables, IsAccepted}
 use Rattle.policy_model.specs.Edits.{does}
 use Rattle.policy_model.specs.History as event
 use Rattle.policy_model.specs.History.{edit_answer}
 use Rattle.rule_edits.specs.Edit.{edit_of}
+use Rattle.desk_state.specs.declared.fault.EditFault.TheVariants.{OutOfMemory}
 use Rattle.desk_state.specs.Answer.{given, fault_text, refusal_of}
 use Rattle.desk_lines.proofs.Faults.{told_fault}
 use Rattle.desk_lines.proofs.Opens.{opens_stay}
@@ -26,7 +28,7 @@ pub returns-in-Err-clause-replies : goal.returns-in-Err-clause-replies
 returns-in-Err-clause-replies g c =
     let fault = c.in-Err.fault in
     on_ok_weaker c.refuse.result
-    (λ told held o s stands stand. elim (told_fault fault told.0) [
+    (λ (told : (fault ≢ OutOfMemory) × (line_bytes c.refuse.new.out ≡ fault_text fault)). λ held o s stands stand. elim (told_fault fault told.0) [
       | inl failed ↦
           let is = ap Err failed in
           let none : IsNone (given (Err fault)) = rw failed refl in
