@@ -2,6 +2,7 @@ mod Places
 mod Failed
 mod Opens
 mod Finishes
+mod OfDesk
 mod Faults
 mod AsksEdits
 mod OneLineMore

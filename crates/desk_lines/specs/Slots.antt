@@ -1,5 +1,5 @@
 -- Assessments that a session holds open, as those of the definitions. This project's own.
-use Rattle.std.specs.Prelude.{◌≡◌, ◌≢◌, ⊤, ℕ, suc, ◌≤◌, List, [], ◌∷◌, take, Some, slice_get}
+use Rattle.std.specs.Prelude.{◌≡◌, ◌≢◌, ⊤, All, ℕ, suc, ◌≤◌, List, [], ◌∷◌, take, Some, slice_get}
 use Rattle.policy_model.specs.Outcomes.{Ask}
 use Rattle.policy_model.specs.ReplyTexts.{rules}
 use Rattle.policy_model.specs.History.{Event, Opening, ask, ask_answer}
@@ -7,7 +7,7 @@ use Rattle.object_model.specs.Kept.{objects_of}
 use Rattle.object_model.specs.Origins.{origin_with}
 use Rattle.session_model.specs.Slots.{Slot}
 use Rattle.desk_state.specs.Verdict.{verdict_of, origin_of}
-use Rattle.desk_state.specs.Judged.{IsJudgedAt}
+use Rattle.desk_state.specs.Judged.{IsJudgedAt, IsLookedOfDesk}
 use Rattle.desk_state.specs.declared.judged.Looked.{Looked}
 use Rattle.desk_state.specs.declared.judged.Looked.TheVariants.{Known, Open}
 use Rattle.desk_lines.specs.declared.slots.OpenSlot.{OpenSlot}
@@ -31,3 +31,7 @@ AreOpen o h m [] [] = ⊤
 AreOpen o h m (c ∷ cs) (s ∷ ss) = (m ≤ s.place) × IsOpenAt o h c s × AreOpen o h (suc s.place) cs ss
 AreOpen o h m [] (s ∷ ss) = ⊥
 AreOpen o h m (c ∷ cs) [] = ⊥
+
+-- what was judged of each that is open is of a desk that holds this
+abbrev pub AreOfDesk : Opening → List OpenSlot → Type 0
+AreOfDesk d slots = All (λ c. IsLookedOfDesk d c.looked) slots

@@ -7,9 +7,11 @@ ghost use Rattle.session_model.specs.Slots.{State};
 ghost use Rattle.session_model.specs.Lines as model;
 ghost use Rattle.line_session.specs.declared.limits.TheConstants.{REPLY_LIMIT};
 ghost use Rattle.assess.specs.Ask.{ask_of};
-ghost use Rattle.desk_state.specs.Stands.{tables, Stands};
+ghost use Rattle.object_model.specs.OfDesk.{KeepsOf};
+ghost use Rattle.desk_state.specs.Stands.{tables, plain, Stands};
 ghost use Rattle.desk_lines.specs.declared.slots.OpenSlot as code;
 ghost use Rattle.desk_lines.specs.Answered.{HasReplied, BeginsAnew};
+ghost use Rattle.desk_lines.specs.Slots.{AreOfDesk};
 
 use crate::finishing::finish;
 use crate::slots::{OpenSlot, is_open, take_slot};
@@ -25,6 +27,7 @@ use std::alloc::AllocError;
 pub fn tick(desk: &mut Desk, at: Moment, out: &mut LineText)
     requires { line_bytes out.old ≡ [] }
     ensures tables { tables desk.new ≡ tables desk.old }
+    ensures of_desk { KeepsOf (plain desk.old) (plain desk.new) }
     ensures room { length (line_bytes out.new) ≤ REPLY_LIMIT }
     ensures replies { (held : List code.OpenSlot) (n : ℕ) → HasReplied desk.old held desk.new held n n (Ok (model.tick at)) (line_bytes out.new) }
 {
@@ -47,6 +50,7 @@ pub fn status(desk: &Desk, out: &mut LineText)
 pub fn assess(desk: &mut Desk, ask: &Ask, out: &mut LineText) -> Result<(), AllocError>
     requires { line_bytes out.old ≡ [] }
     ensures tables { tables desk.new ≡ tables desk.old }
+    ensures of_desk { KeepsOf (plain desk.old) (plain desk.new) }
     ensures room { length (line_bytes out.new) ≤ REPLY_LIMIT }
     ensures replies { OnOk result
         ((held : List code.OpenSlot) (n : ℕ) → HasReplied desk.old held desk.new held n n (Ok (model.assess (ask_of ask.now))) (line_bytes out.new)) }
@@ -64,7 +68,9 @@ pub fn begin(
     ask: &Ask,
     out: &mut LineText,
 ) -> Result<(), AllocError>
-    requires { line_bytes out.old ≡ [] }
+    requires text { line_bytes out.old ≡ [] }
+    requires of_desk { AreOfDesk (plain desk.now) slots.old.items }
+    ensures of_desk { AreOfDesk (plain desk.now) slots.new.items }
     ensures room { length (line_bytes out.new) ≤ REPLY_LIMIT }
     ensures replies { OnOk result ((n : ℕ) → HasReplied desk.now slots.old.items desk.now slots.new.items n n
         (Ok (model.begin number (ask_of ask.now))) (line_bytes out.new)) }
@@ -88,7 +94,9 @@ fn begin_now(
     ask: &Ask,
     out: &mut LineText,
 ) -> Result<(), AllocError>
-    requires { line_bytes out.old ≡ [] }
+    requires text { line_bytes out.old ≡ [] }
+    requires of_desk { AreOfDesk (plain desk.now) slots.old.items }
+    ensures of_desk { AreOfDesk (plain desk.now) slots.new.items }
     ensures room { length (line_bytes out.new) ≤ REPLY_LIMIT }
     ensures replies { OnOk result (BeginsAnew desk.now slots.old.items slots.new.items number (ask_of ask.now) (line_bytes out.new)) }
     ensures refuses { OnErr result (slots.new.items ≡ slots.old.items) }
@@ -108,8 +116,10 @@ pub fn finish_number(
     number: u32,
     out: &mut LineText,
 ) -> Result<(), AllocError>
-    requires { line_bytes out.old ≡ [] }
+    requires text { line_bytes out.old ≡ [] }
+    requires of_desk { AreOfDesk (plain desk.old) slots.old.items }
     ensures tables { tables desk.new ≡ tables desk.old }
+    ensures of_desk { AreOfDesk (plain desk.new) slots.new.items }
     ensures room { length (line_bytes out.new) ≤ REPLY_LIMIT }
     ensures replies { OnOk result
         ((n : ℕ) → HasReplied desk.old slots.old.items desk.new slots.new.items n n (Ok (model.finish number)) (line_bytes out.new)) }

@@ -8,9 +8,10 @@ ghost use Rattle.session_model.specs.Lines as model;
 ghost use Rattle.line_session.specs.declared.limits.TheConstants.{REPLY_LIMIT};
 ghost use Rattle.rule_edits.specs.Edit.{edit_of};
 ghost use Rattle.policy_keeper.specs.Mirror.{Mirrors};
+ghost use Rattle.object_model.specs.OfDesk.{KeepsOf};
 ghost use Rattle.desk_state.specs.declared.fault.EditFault.TheVariants.{OutOfMemory};
 ghost use Rattle.desk_state.specs.Answer.{fault_text};
-ghost use Rattle.desk_state.specs.Stands.{tables, Stands};
+ghost use Rattle.desk_state.specs.Stands.{tables, plain, Stands};
 ghost use Rattle.desk_lines.specs.declared.slots.OpenSlot as code;
 ghost use Rattle.desk_lines.specs.Answered.{HasReplied};
 ghost use Rattle.desk_state.specs.Failures.{Keeps};
@@ -32,6 +33,7 @@ pub fn make<K: Keeper>(
     requires text { line_bytes out.old ≡ [] }
     requires mirrors { Mirrors (K.told keeper.old) (tables desk.old) }
     ensures mirrors { Mirrors (K.told keeper.new) (tables desk.new) }
+    ensures of_desk { KeepsOf (plain desk.old) (plain desk.new) }
     ensures keeps { Keeps (K.told keeper.old) (K.told keeper.new) (K.faults keeper.old) (K.faults keeper.new) }
     ensures room { length (line_bytes out.new) ≤ REPLY_LIMIT }
     ensures replies { OnOk result

@@ -8,8 +8,9 @@ ghost use Rattle.policy_model.specs.History.{Event, Opening};
 ghost use Rattle.policy_model.specs.History as event;
 ghost use Rattle.session_model.specs.Finishing.{finished_text, finished_history};
 ghost use Rattle.object_model.specs.Tickets.{Ticket, IsTicketOf, ticket_ask};
-ghost use Rattle.desk_state.specs.Judged.{IsJudged};
-ghost use Rattle.desk_state.specs.Stands.{tables, Stands};
+ghost use Rattle.object_model.specs.OfDesk.{KeepsOf};
+ghost use Rattle.desk_state.specs.Judged.{IsJudged, IsJudgedOfDesk, IsLookedOfDesk};
+ghost use Rattle.desk_state.specs.Stands.{tables, plain, Stands};
 ghost use Rattle.desk_lines.specs.Slots.{IsHeld};
 
 use desk_state::{Desk, Judged, Looked};
@@ -18,8 +19,10 @@ use std::alloc::AllocError;
 
 /// Writes the reply to an assessment that is finished now. Out of memory, nothing of it was done.
 pub fn finish(desk: &mut Desk, looked: Looked, out: &mut LineText) -> Result<(), AllocError>
-    requires { line_bytes out.old ≡ [] }
+    requires text { line_bytes out.old ≡ [] }
+    requires of_desk { IsLookedOfDesk (plain desk.old) looked }
     ensures tables { tables desk.new ≡ tables desk.old }
+    ensures of_desk { KeepsOf (plain desk.old) (plain desk.new) }
     ensures room { length (line_bytes out.new) ≤ REPLY_LIMIT }
     ensures finished { (o : Opening) (h : List Event) (k : ℕ) (a : policy.Ask)
         → Stands desk.old o h → slice_get h k ≡ Some (event.ask a) → IsHeld o h k a looked
@@ -36,8 +39,10 @@ pub fn finish(desk: &mut Desk, looked: Looked, out: &mut LineText) -> Result<(),
 }
 
 fn finish_judged(desk: &mut Desk, judged: Judged, out: &mut LineText) -> Result<(), AllocError>
-    requires { line_bytes out.old ≡ [] }
+    requires text { line_bytes out.old ≡ [] }
+    requires of_desk { IsJudgedOfDesk (plain desk.old) judged }
     ensures tables { tables desk.new ≡ tables desk.old }
+    ensures of_desk { KeepsOf (plain desk.old) (plain desk.new) }
     ensures room { length (line_bytes out.new) ≤ REPLY_LIMIT }
     ensures finished { (o : Opening) (h : List Event) (k : ℕ) (t : Ticket)
         → Stands desk.old o h → IsTicketOf t o h k → IsJudged judged t

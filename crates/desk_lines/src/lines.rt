@@ -34,7 +34,8 @@ pub struct DeskLines<'a, K: Keeper> {
 impl<K: Keeper> Responder for DeskLines<'_, K> {
     ghost use Rattle.std.specs.Prelude.{false};
     ghost use Rattle.policy_keeper.specs.Mirror.{Mirrors};
-    ghost use Rattle.desk_state.specs.Stands.{tables};
+    ghost use Rattle.desk_state.specs.Stands.{tables, plain};
+    ghost use Rattle.desk_lines.specs.Slots.{AreOfDesk};
     ghost use Rattle.desk_lines.specs.Answered.{HasAnsweredSo};
     ghost use Rattle.desk_state.specs.Failures.{Keeps};
 
@@ -42,7 +43,7 @@ impl<K: Keeper> Responder for DeskLines<'_, K> {
         × Keeps (K.told begin.keeper.now) (K.told lines.keeper.now) (K.faults begin.keeper.now) (K.faults lines.keeper.now)
         × (lines.desk.ghost_name ≡ begin.desk.ghost_name) × (lines.keeper.ghost_name ≡ begin.keeper.ghost_name) };
 
-    ghost ready = { λ lines. Mirrors (K.told lines.keeper.now) (tables lines.desk.now) };
+    ghost ready = { λ lines. Mirrors (K.told lines.keeper.now) (tables lines.desk.now) × AreOfDesk (plain lines.desk.now) lines.slots.now.items };
 
     fn answer(&mut self, alloc: Global, line: &[u8], out: &mut LineText) -> Result<(), AllocError> {
         the_front_asks_the_same();
@@ -59,7 +60,8 @@ impl<K: Keeper> Responder for DeskLines<'_, K> {
 impl<'a, K: Keeper> DeskLines<'a, K> {
     ghost use Rattle.std.specs.Prelude.{false};
     ghost use Rattle.policy_keeper.specs.Mirror.{Mirrors};
-    ghost use Rattle.desk_state.specs.Stands.{tables};
+    ghost use Rattle.desk_state.specs.Stands.{tables, plain};
+    ghost use Rattle.desk_lines.specs.Slots.{AreOfDesk};
     ghost use Rattle.desk_lines.specs.Answered.{HasReplied, IsAt};
     ghost use Rattle.desk_state.specs.Failures.{Keeps};
     ghost use Rattle.desk_lines.specs.Requests.{request_view};
@@ -93,7 +95,9 @@ impl<'a, K: Keeper> DeskLines<'a, K> {
         requires text { line_bytes out.old ≡ [] }
         requires whole { self.old.lost ≡ false }
         requires mirrors { Mirrors (K.told self.old.keeper.now) (tables self.old.desk.now) }
+        requires of_desk { AreOfDesk (plain self.old.desk.now) self.old.slots.now.items }
         ensures mirrors { Mirrors (K.told self.new.keeper.now) (tables self.new.desk.now) }
+        ensures of_desk { AreOfDesk (plain self.new.desk.now) self.new.slots.now.items }
         ensures keeps { Keeps (K.told self.old.keeper.now) (K.told self.new.keeper.now) (K.faults self.old.keeper.now) (K.faults self.new.keeper.now) }
         ensures name { self.new.desk.ghost_name ≡ self.old.desk.ghost_name }
         ensures keeper_name { self.new.keeper.ghost_name ≡ self.old.keeper.ghost_name }
@@ -121,8 +125,10 @@ impl<'a, K: Keeper> DeskLines<'a, K> {
     }
 
     fn finish(&mut self, number: u32, out: &mut LineText) -> Result<(), AllocError>
-        requires { line_bytes out.old ≡ [] }
+        requires text { line_bytes out.old ≡ [] }
+        requires of_desk { AreOfDesk (plain self.old.desk.now) self.old.slots.now.items }
         ensures tables { tables self.new.desk.now ≡ tables self.old.desk.now }
+        ensures of_desk { AreOfDesk (plain self.new.desk.now) self.new.slots.now.items }
         ensures keeper { self.new.keeper.now ≡ self.old.keeper.now }
         ensures name { self.new.desk.ghost_name ≡ self.old.desk.ghost_name }
         ensures keeper_name { self.new.keeper.ghost_name ≡ self.old.keeper.ghost_name }

@@ -6,7 +6,8 @@ ghost use Rattle.gk_io.specs.Told.{IsFlushed};
 ghost use Rattle.line_reader.specs.Limits.{IsWithin, RunsPast};
 ghost use Rattle.line_session.specs.Ends.{EndsFine, StopsBefore, BreaksOff, AtReadFault, AtLimit, AtWant};
 ghost use Rattle.policy_keeper.specs.Mirror.{Mirrors};
-ghost use Rattle.desk_state.specs.Stands.{tables};
+ghost use Rattle.desk_state.specs.Stands.{tables, plain};
+ghost use Rattle.desk_lines.specs.Slots.{AreOfDesk};
 ghost use Rattle.desk_lines.specs.Answered.{HasAnswered, HasAnsweredSo};
 ghost use Rattle.desk_state.specs.Failures.{Keeps};
 
@@ -75,6 +76,7 @@ fn answer_lines<K: Keeper, S: Source, W: Sink>(
 ) -> Ended
     requires answered { HasAnsweredSo responder.old.desk.now responder.old.desk.now responder.old.slots.now.items responder.old.lost (K.faults responder.old.keeper.now) (K.faults responder.old.keeper.now) [] [] }
     requires mirrors { Mirrors (K.told responder.old.keeper.now) (tables responder.old.desk.now) }
+    requires of_desk { AreOfDesk (plain responder.old.desk.now) responder.old.slots.now.items }
     ensures mirrors { Mirrors (K.told responder.new.keeper.now) (tables responder.new.desk.now) }
     ensures keeps { Keeps (K.told responder.old.keeper.now) (K.told responder.new.keeper.now) (K.faults responder.old.keeper.now) (K.faults responder.new.keeper.now) }
     ensures name { responder.new.desk.ghost_name ≡ responder.old.desk.ghost_name }

@@ -17,7 +17,7 @@ returns-then-is_open-clause-replies c = λ n o s stands stand.
     let items = c.as_slice.ensures.value in
     let yes = c.if-is_open.true in
     let busy : list_any (has_number c.args.number) s.slots ≡ true = cc in
-    (s, inl (rw busy refl, rw (busy, c.push_all.ensures.text, c.requires) refl), stands, stand, shows_none s.history n)
+    (s, inl (rw busy refl, rw (busy, c.push_all.ensures.text, c.requires.text) refl), stands, stand, shows_none s.history n)
 
 pub returns-then-len-ge-MOST_SLOTS-clause-replies : goal.returns-then-len-ge-MOST_SLOTS-clause-replies
 returns-then-len-ge-MOST_SLOTS-clause-replies c = λ n o s stands stand.
@@ -28,7 +28,7 @@ returns-then-len-ge-MOST_SLOTS-clause-replies c = λ n o s stands stand.
     let free : list_any (has_number c.args.number) s.slots ≡ false = cc in
     let count : length c.args.slots.now.items ≡ length s.slots = same_count o s.history 0 c.args.slots.now.items s.slots stand in
     let full : nat_le 50 (length s.slots) ≡ true = grind (arith, nat_tests, count, c.if-len-ge-MOST_SLOTS.true) in
-    (s, inl (rw (free, full) refl, rw (free, full, c.push_all-then-len-ge-MOST_SLOTS.ensures.text, c.requires) refl), stands, stand, shows_none s.history n)
+    (s, inl (rw (free, full) refl, rw (free, full, c.push_all-then-len-ge-MOST_SLOTS.ensures.text, c.requires.text) refl), stands, stand, shows_none s.history n)
 
 pub returns-else-len-ge-MOST_SLOTS-clause-replies : goal.returns-else-len-ge-MOST_SLOTS-clause-replies
 returns-else-len-ge-MOST_SLOTS-clause-replies c = on_ok_weaker c.begin_now.result (λ anew n o s stands stand.

@@ -32,3 +32,6 @@ returns-clause-keeper_name g c = c.run_session.ensures.answered.2.3
 
 pub returns-clause-keeps : goal.returns-clause-keeps
 returns-clause-keeps g c = c.run_session.ensures.answered.2.1
+
+pub returns-clause-mirrors : goal.returns-clause-mirrors
+returns-clause-mirrors g c = c.run_session.ensures.ready.0
