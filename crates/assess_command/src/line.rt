@@ -14,7 +14,8 @@ ghost use Rattle.policy_model.specs.declared.limits.TheConstants.{GREATEST_MOMEN
 ghost use Rattle.policy_model.specs.History.{Event, Opening};
 ghost use Rattle.authority_table.specs.Kind.{kind_of};
 ghost use Rattle.assess.specs.Ask.{ask_of};
-ghost use Rattle.desk_state.specs.Stands.{Stands};
+ghost use Rattle.object_model.specs.OfDesk.{IsTicketOfDesk};
+ghost use Rattle.desk_state.specs.Stands.{plain, Stands};
 ghost use Rattle.code_directory.specs.FaultText.{code_fault_text};
 ghost use Rattle.assess_command.specs.Files.{code_of};
 ghost use Rattle.assess_command.specs.Assessments.{Assesses, IsAnswered, assessed_by};
@@ -89,7 +90,8 @@ fn answer(
 
 /// Finishes an assessment with what its ticket judges.
 fn finish(desk: &mut Desk, ticket: Ticket, out: &mut LineText) -> Result<Assessed, AllocError>
-    requires { line_bytes out.old ≡ [] }
+    requires text { line_bytes out.old ≡ [] }
+    requires of_desk { IsTicketOfDesk (plain desk.old) (ticket_of ticket) }
     ensures room { length (line_bytes out.new) ≤ 1000 }
     ensures finished { (o : Opening) (h : List Event) (k : ℕ) → Stands desk.old o h → IsTicketOf (ticket_of ticket) o h k
         → IfOk result (λ how. (how ≡ assessed_by (ask_answer o (take k h) (ticket_ask (ticket_of ticket))).allow)
