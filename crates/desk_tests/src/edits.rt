@@ -1,4 +1,10 @@
 //! What a desk answers to edits and assessments, as it is printed.
+
+ghost use Rattle.std.specs.Prelude.{IfSome};
+ghost use Rattle.object_model.specs.OfDesk.{KeepsOf};
+ghost use Rattle.desk_state.specs.Stands.{plain};
+ghost use Rattle.desk_state.specs.Judged.{IsJudgedOfDesk};
+
 use crate::kept_desk::{KeptDesk, fresh_desk};
 use crate::made::{ask, edit, new_rule, subject};
 use authority_table::Moment;
@@ -37,7 +43,9 @@ fn refusal_prints(fault: EditFault, text: &[u8]) -> bool {
     out.as_slice() == text
 }
 
-fn made(alloc: Global, desk: &mut KeptDesk, edit: &Edit, text: &[u8]) -> bool {
+fn made(alloc: Global, desk: &mut KeptDesk, edit: &Edit, text: &[u8]) -> bool
+    ensures { KeepsOf (plain desk.old.desk) (plain desk.new.desk) }
+{
     let answer = desk.edit(alloc, edit);
     answers(&answer, text)
 }
@@ -96,14 +104,19 @@ fn one_rule(alloc: Global) -> Option<bool> {
     Some(none && added && first && decides && second && ended && unsigned)
 }
 
-fn judged(desk: &KeptDesk, ask: &Ask) -> Option<Judged> {
+fn judged(desk: &KeptDesk, ask: &Ask) -> Option<Judged>
+    ensures { IfSome result (λ judged. IsJudgedOfDesk (plain desk.now.desk) judged) }
+{
     match desk.judge(ask) {
         Looked::Known(_) => None,
         Looked::Open(judged) => Some(judged),
     }
 }
 
-fn settles(desk: &mut KeptDesk, judged: Judged, text: &[u8]) -> bool {
+fn settles(desk: &mut KeptDesk, judged: Judged, text: &[u8]) -> bool
+    requires { IsJudgedOfDesk (plain desk.old.desk) judged }
+    ensures { KeepsOf (plain desk.old.desk) (plain desk.new.desk) }
+{
     match desk.settle(judged) {
         Err(_) => false,
         Ok(finished) => {

@@ -1,6 +1,6 @@
 //! A desk over a keeper in memory.
 
-ghost use Rattle.std.specs.Prelude.{Some};
+ghost use Rattle.std.specs.Prelude.{Some, IfOk};
 ghost use Rattle.policy_keeper.specs.Mirror.{Mirrors};
 ghost use Rattle.memory_keeper.specs.Memory.{kept};
 ghost use Rattle.desk_state.specs.Stands.{tables};
@@ -36,7 +36,15 @@ pub fn fresh_desk(alloc: Global) -> Option<KeptDesk> {
 }
 
 impl KeptDesk {
-    pub fn edit(&mut self, alloc: Global, edit: &Edit) -> Result<Answer, EditFault> {
+    ghost use Rattle.object_model.specs.OfDesk.{IsTicketOfDesk, KeepsOf};
+    ghost use Rattle.desk_ticket.specs.Ticket.{ticket_of};
+    ghost use Rattle.desk_state.specs.Stands.{plain};
+    ghost use Rattle.desk_state.specs.Begun.{IsBegunOfDesk};
+    ghost use Rattle.desk_state.specs.Judged.{IsJudgedOfDesk, IsLookedOfDesk};
+
+    pub fn edit(&mut self, alloc: Global, edit: &Edit) -> Result<Answer, EditFault>
+        ensures { KeepsOf (plain self.old.desk) (plain self.new.desk) }
+    {
         self.desk.edit(alloc, &mut self.keeper, edit)
     }
 
@@ -44,21 +52,30 @@ impl KeptDesk {
         self.desk.tick(at)
     }
 
-    pub fn begin(&self, alloc: Global, ask: &Ask) -> Result<Begun, AllocError> {
+    pub fn begin(&self, alloc: Global, ask: &Ask) -> Result<Begun, AllocError>
+        ensures { IfOk result (λ begun. IsBegunOfDesk (plain self.now.desk) begun) }
+    {
         self.desk.begin(alloc, ask)
     }
 
     /// Judges a ticket and finishes its assessment.
-    pub fn finish(&mut self, ticket: Ticket) -> Result<Finished, AllocError> {
+    pub fn finish(&mut self, ticket: Ticket) -> Result<Finished, AllocError>
+        requires { IsTicketOfDesk (plain self.old.desk) (ticket_of ticket) }
+    {
         let outcome = ticket.judge();
         self.desk.finish(ticket, outcome)
     }
 
-    pub fn judge(&self, ask: &Ask) -> Looked {
+    pub fn judge(&self, ask: &Ask) -> Looked
+        ensures { IsLookedOfDesk (plain self.now.desk) result }
+    {
         self.desk.judge(ask)
     }
 
-    pub fn settle(&mut self, judged: Judged) -> Result<Finished, AllocError> {
+    pub fn settle(&mut self, judged: Judged) -> Result<Finished, AllocError>
+        requires { IsJudgedOfDesk (plain self.old.desk) judged }
+        ensures { KeepsOf (plain self.old.desk) (plain self.new.desk) }
+    {
         self.desk.settle(judged)
     }
 
