@@ -3,8 +3,8 @@
 # Times how long the freshly built program takes to load a store: the sqlite3 shell makes a file of RULES (10,000) and
 # RECEIPTS (50,000: each rule's own, then edits that disabled one), and `status` loads it, RUNS times. The median of the
 # wall clock's milliseconds stands beside that of a new store, in which there is nothing to load. Behind them stand
-# 1,000 edits of one session over a new file, the same 1,000 transactions by Python's sqlite3, and an import of 10,000
-# rows into a new file.
+# 1,000 edits of one session over a new file, the same 1,000 transactions by the program's own SQL library alone and by
+# Python's sqlite3, and an import of 10,000 rows into a new file.
 cd "$(dirname "$0")/.." || exit 1
 
 runs=${1:-9}
@@ -14,6 +14,7 @@ work=$(mktemp -d)
 trap 'rm -rf "$work"' EXIT
 
 make -s build || exit 1
+(cd crates/bench && rt run -- transactions 1 "$work/plain.db") >"$work/log" 2>&1 || { cat "$work/log"; exit 1; }
 
 awk -v rules="$rules" -v receipts="$receipts" '
   function requirement(n) {
@@ -88,9 +89,11 @@ timed() {
   echo "| $name | $(median "$work/timed.ms") ms |"
 }
 
+same_by_sql() { crates/bench/out/bench transactions 1000 "$work/plain.db" >"$work/replies"; }
 edit_by_session() { build/gatekeeper "$work/made.db" session <"$work/edits" >"$work/replies"; }
 import_rules() { build/gatekeeper "$work/made.db" import "$work/rules.csv" >"$work/replies"; }
 
 timed '1,000 edits of a session' edit_by_session
+timed 'the same by SQL alone' same_by_sql
 command -v python3 >/dev/null && timed "the same by Python's sqlite3" same_by_python
 timed 'an import of 10,000 rows' import_rules

@@ -13,12 +13,13 @@ mod requirements;
 mod signed;
 mod super_blobs;
 mod texts;
+mod transactions;
 mod turns;
 
 use std::{env, io};
 
-/// The words are `blobs`, `facts`, `opcodes`, `pages`, `texts` or `turns`, and what these take; or `each`, and the files
-/// that `opcodes` and `texts` read.
+/// The words are `blobs`, `facts`, `opcodes`, `pages`, `texts`, `transactions` or `turns`, and what these take; or `each`,
+/// and the files that `opcodes` and `texts` read.
 fn main(rt: HostRuntime) -> io::Result<()> {
     let part = env::args(&rt)?.nth(1);
     match part.as_ref().map(|word| word.as_str()) {
@@ -27,6 +28,7 @@ fn main(rt: HostRuntime) -> io::Result<()> {
         Some("opcodes") => opcodes::measure(&rt),
         Some("pages") => pages::measure(&rt),
         Some("texts") => texts::measure(&rt),
+        Some("transactions") => transactions::measure(&rt),
         Some("turns") => turns::measure(&rt, rt.alloc()),
         Some("each") => {
             blobs::measure(&rt)?;
@@ -36,7 +38,7 @@ fn main(rt: HostRuntime) -> io::Result<()> {
             turns::measure(&rt, rt.alloc())
         }
         _ => println!(rt;
-            "usage: bench blobs|facts|opcodes|pages|texts|turns|each [TIMES] [time] [FILE ..]"
+            "usage: bench blobs|facts|opcodes|pages|texts|transactions|turns|each [TIMES] [time] [FILE ..]"
         ),
     }
 }
