@@ -1,12 +1,10 @@
 -- Marks of rules: what they say of a label, and that they go along with the rules.
-use Rattle.std.proofs.Common.{◌≡◌, ◌≢◌, ℕ, zero, suc, ◌+◌, ◌-◌, ◌<◌, ◌≤◌, length, take, drop, get_or, List, [], ◌∷◌, ◌++◌, refl, sym, ap, ◌∙◌, arith}
-use Rattle.std.specs.Prelude.{Bool, true, false, cond, map, ◌&&◌, if◌then◌else◌, bytes_eq, nat_lt}
-use Rattle.std.specs.List.{filter, remove, between}
+use Rattle.std.proofs.Common.{◌≡◌, ◌≢◌, ℕ, zero, suc, ◌+◌, ◌<◌, length, take, drop, get_or, List, [], ◌∷◌, ◌++◌, refl, sym, ap, ◌∙◌, arith}
+use Rattle.std.specs.Prelude.{Bool, true, false, cond, map, ◌&&◌, if◌then◌else◌, bytes_eq}
+use Rattle.std.specs.List.{filter, remove}
 use Rattle.std.proofs.lemmas.Bool.{false_from_ne_true}
-use Rattle.std.proofs.lemmas.Bool.Decides.{nat_tests}
 use Rattle.std.proofs.lemmas.Slice.Eq.{bytes_eq-Decides}
-use Rattle.std.proofs.lemmas.List.{length-map, length-drop, length-take-le, get_or-map, get_or-take, get_or-drop, take-map, drop-map, map-append, get_or_default}
-use Rattle.std.proofs.lemmas.List.Edits.{length-between, get_or-between}
+use Rattle.std.proofs.lemmas.List.{length-map, length-drop, length-take-le, get_or-map, get_or-take, get_or-drop, take-map, drop-map, map-append}
 use Rattle.policy_model.specs.Rules.{Row}
 use Rattle.policy_model.specs.Contents.{by_label, Selector}
 use Rattle.policy_model.specs.Changes.{named_by, in_kind, selects, change, rows_after, with_count, with_expiry}
@@ -18,7 +16,10 @@ use Rattle.authority_table.specs.Label.{label_bytes}
 use Rattle.authority_table.specs.Rule.{row_of, rows_of}
 use Rattle.authority_table.specs.Selector.{selector_of, content_by}
 use Rattle.authority_table.specs.Spans.{IsSpan}
-use Rattle.authority_table.specs.Marks.{mark_of, row_mark, AreMarks}
+use Rattle.list_marks.specs.declared.span.Span.{Span}
+use Rattle.list_marks.specs.Marks.{mark_of}
+use Rattle.list_marks.specs.Spans.{IsMarkSpan}
+use Rattle.authority_table.specs.Marks.{row_mark, AreMarks}
 use Rattle.authority_table.proofs.Tallied.{and_false}
 
 -- a row of another mark hasn't the label
@@ -37,25 +38,25 @@ mark_at : (rows : List Row) (marks : List ℕ) (k : ℕ) (d : Row) → AreMarks 
 mark_at rows marks k d marked lt = ap (λ l. get_or l k (row_mark d)) marked ∙ get_or-map row_mark rows k d (row_mark d) lt
 
 -- outside of the places of a label's mark no row is selected by the label
-pub mark_span : (s : Selector) (bytes : List ℕ) (rows : List Row) (marks : List ℕ) (mark from to : ℕ) → s.which ≡ by_label bytes → AreMarks rows marks → mark ≡ mark_of bytes →
-    from ≤ to → to ≤ length marks → ((k d : ℕ) → k < from → get_or marks k d ≢ mark) → ((k d : ℕ) → to ≤ k → k < length marks → get_or marks k d ≢ mark) →
-    IsSpan s rows (record { from = from; to = to })
-mark_span s bytes rows marks mark from to e marked is le within first last =
+pub mark_span : (s : Selector) (bytes : List ℕ) (rows : List Row) (marks : List ℕ) (mark : ℕ) (span : Span) → s.which ≡ by_label bytes → AreMarks rows marks → mark ≡ mark_of bytes →
+    IsMarkSpan marks mark span → IsSpan s rows span
+mark_span s bytes rows marks mark span e marked is places =
     let same : length marks ≡ length rows = ap length marked ∙ length-map rows row_mark in
     record {
-      ordered = le;
-      within = omega (arith, within, same);
-      front = none_in (selects s) (take from rows) (λ k d lt.
-          let few : length (take from rows) ≡ from = length-take-le from rows (omega (arith, le, within, same)) in
-          let less : k < from = omega (arith, lt, few) in
-          ap (selects s) (get_or-take from rows k d less)
-          ∙ other_label s bytes (get_or rows k d) e (λ q. first k (row_mark d) less (mark_at rows marks k d marked (omega (arith, less, le, within, same)) ∙ (q ∙ sym is))));
-      rear = none_in (selects s) (drop to rows) (λ k d lt.
-          let rest : length (drop to rows) + to ≡ length rows = omega (arith, length-drop to rows, within, same) in
-          let less : to + k < length rows = omega (arith, lt, rest) in
-          ap (selects s) (get_or-drop to rows k d)
-          ∙ other_label s bytes (get_or rows (to + k) d) e
-          (λ q. last (to + k) (row_mark d) (omega arith) (omega (arith, less, same)) (mark_at rows marks (to + k) d marked less ∙ (q ∙ sym is))));
+      ordered = places.ordered;
+      within = omega (arith, places.within, same);
+      front = none_in (selects s) (take span.from rows) (λ k d lt.
+          let few : length (take span.from rows) ≡ span.from = length-take-le span.from rows (omega (arith, places.ordered, places.within, same)) in
+          let less : k < span.from = omega (arith, lt, few) in
+          ap (selects s) (get_or-take span.from rows k d less)
+          ∙ other_label s bytes (get_or rows k d) e
+          (λ q. places.front k (row_mark d) less (mark_at rows marks k d marked (omega (arith, less, places.ordered, places.within, same)) ∙ (q ∙ sym is))));
+      rear = none_in (selects s) (drop span.to rows) (λ k d lt.
+          let rest : length (drop span.to rows) + span.to ≡ length rows = omega (arith, length-drop span.to rows, places.within, same) in
+          let less : span.to + k < length rows = omega (arith, lt, rest) in
+          ap (selects s) (get_or-drop span.to rows k d)
+          ∙ other_label s bytes (get_or rows (span.to + k) d) e
+          (λ q. places.rear (span.to + k) (row_mark d) (omega arith) (omega (arith, less, same)) (mark_at rows marks (span.to + k) d marked less ∙ (q ∙ sym is))));
     }
 
 map_removed : {X Y : Type 0} (f : X → Y) (xs : List X) (at : ℕ) → map f (remove xs at) ≡ remove (map f xs) at
@@ -97,34 +98,3 @@ changed_marks s (Expire end) rows h = same_marks (selects (selector_of s)) (with
 -- a change other than a removal leaves the marks
 pub marks_kept : (s : code.Selector) (c : RowChange) (old new : List Row) (marks : List ℕ) → c ≢ Remove → AreMarks old marks → new ≡ rows_after 0 (content_by s c) old → AreMarks new marks
 marks_kept s c old new marks h marked is = marked ∙ sym (ap (map row_mark) is ∙ changed_marks s c old h)
-
-split_at : {P : Type 0} (b : Bool) (k at : ℕ) → nat_lt k at ≡ b → (k < at → P) → (at ≤ k → P) → P
-split_at true k at e f g = f (grind (arith, nat_tests, e))
-split_at false k at e f g = g (grind (arith, nat_tests, e))
-
--- a mark isn't in a part, so it is at none of its places
-absent_between : (marks : List ℕ) (mark from to : ℕ) → from ≤ to → to ≤ length marks → ((k d : ℕ) → k < length (between from to marks) → get_or (between from to marks) k d ≢ mark) →
-    (k d : ℕ) → from ≤ k → k < to → get_or marks k d ≢ mark
-absent_between marks mark from to le within absent k d ge lt q =
-    let many : length (between from to marks) ≡ to - from = length-between marks from to within in
-    let here : from + (k - from) ≡ k = omega (arith, ge) in
-    absent (k - from) d (omega (arith, many, ge, lt)) (get_or-between marks from to (k - from) d (omega (arith, here, lt)) ∙ (ap (λ n. get_or marks n d) here ∙ q))
-
--- nor before that part, so nowhere before its end
-pub absent_before : (marks : List ℕ) (mark from to : ℕ) → from ≤ to → to ≤ length marks → ((k d : ℕ) → k < from → get_or marks k d ≢ mark) →
-    ((k d : ℕ) → k < length (between from to marks) → get_or (between from to marks) k d ≢ mark) → (k d : ℕ) → k < to → get_or marks k d ≢ mark
-absent_before marks mark from to le within first absent k d lt =
-    split_at (nat_lt k from) k from refl (λ less. first k d less) (λ ge. absent_between marks mark from to le within absent k d ge lt)
-
--- nor behind that part, so nowhere from its beginning on
-pub absent_behind : (marks : List ℕ) (mark from to : ℕ) → from ≤ to → to ≤ length marks → ((k d : ℕ) → to ≤ k → k < length marks → get_or marks k d ≢ mark) →
-    ((k d : ℕ) → k < length (between from to marks) → get_or (between from to marks) k d ≢ mark) → (k d : ℕ) → from ≤ k → k < length marks → get_or marks k d ≢ mark
-absent_behind marks mark from to le within last absent k d ge in' =
-    split_at (nat_lt k to) k to refl (λ less. absent_between marks mark from to le within absent k d ge less) (λ more. last k d more in')
-
--- one more mark is another
-pub absent_more : (marks : List ℕ) (mark i x : ℕ) → i < length marks → x ≡ get_or marks i x → x ≢ mark → ((k d : ℕ) → k < i → get_or marks k d ≢ mark) → (k d : ℕ) → k < i + 1 → get_or marks k d ≢ mark
-absent_more marks mark i x lt is other first k d less =
-    split_at (nat_lt k i) k i refl (λ before. first k d before) (λ ge q.
-    let here : k ≡ i = omega (arith, ge, less) in
-    other (is ∙ (get_or_default marks i x d lt ∙ (ap (λ n. get_or marks n d) (sym here) ∙ q))))

@@ -30,7 +30,8 @@ use Rattle.authority_table.specs.Selector.{selector_of, content_by}
 use Rattle.authority_table.specs.Prepared.{HasRoom, IsSpare, Takes, stepped, IsPlanFor, planned, IsPlan}
 use Rattle.authority_table.specs.Spans.{AreRising}
 use Rattle.authority_table.specs.Label.{label_bytes}
-use Rattle.authority_table.specs.Marks.{mark_of, row_mark, AreMarks}
+use Rattle.list_marks.specs.Marks.{mark_of}
+use Rattle.authority_table.specs.Marks.{row_mark, AreMarks}
 use Rattle.authority_table.proofs.RoomFor.{room_grows, room_holds}
 use Rattle.authority_table.proofs.Rising.{rising_after}
 use Rattle.authority_table.proofs.Marked.{marks_more}

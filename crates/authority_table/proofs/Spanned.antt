@@ -15,7 +15,7 @@ use Rattle.policy_model.specs.Changes.{named_by, in_kind, selects, change}
 use Rattle.policy_model.specs.Refusals.{least_id}
 use Rattle.authority_table.specs.declared.rule.Rule.{Rule}
 use Rattle.authority_table.specs.declared.tally.Tally.{Tally}
-use Rattle.authority_table.specs.declared.span.Span.{Span}
+use Rattle.list_marks.specs.declared.span.Span.{Span}
 use Rattle.authority_table.specs.Rule.{row_of, rows_of}
 use Rattle.authority_table.specs.Spans.{AreRising, IsSpan}
 use Rattle.authority_table.specs.Tally.{IsTally}

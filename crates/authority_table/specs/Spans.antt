@@ -5,7 +5,7 @@ use Rattle.policy_model.specs.Rules.{Row}
 use Rattle.policy_model.specs.Contents.{Selector}
 use Rattle.policy_model.specs.Changes.{selects}
 use Rattle.authority_table.specs.declared.rule.Rule.{Rule}
-use Rattle.authority_table.specs.declared.span.Span.{Span}
+use Rattle.list_marks.specs.declared.span.Span.{Span}
 
 -- the numbers of the rules rise
 abbrev pub AreRising : List Rule → Type 0

@@ -20,7 +20,8 @@ use crate::removal::remove;
 use crate::rooms;
 use crate::row_change::RowChange;
 use crate::selector::Selector;
-use crate::span::{Span, span_of};
+use crate::span::span_of;
+use list_marks::Span;
 
 /// Adds one behind all others; where the memory of the list is used up, it moves into the room.
 pub(crate) fn insert<T: Drop>(list: &mut Vec<T>, item: T, room: Vec<T>)

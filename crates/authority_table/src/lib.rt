@@ -7,7 +7,6 @@ mod found;
 mod held_rule;
 mod kind;
 mod label;
-mod marks;
 mod moment;
 mod outcome;
 mod prepared;

@@ -10,7 +10,7 @@ ghost use Rattle.authority_table.specs.Marks.{AreMarks};
 
 use crate::held_rule::HeldRule;
 use crate::selector::Selector;
-use crate::span::Span;
+use list_marks::Span;
 
 /// Takes the selected rules out; none is outside of the span.
 pub(crate) fn remove(

@@ -10,17 +10,10 @@ ghost use Rattle.authority_table.specs.Spans.{AreRising, IsSpan};
 ghost use Rattle.authority_table.specs.Marks.{AreMarks};
 
 use crate::held_rule::HeldRule;
-use crate::marks::span_of_label;
 use crate::rule::Rule;
 use crate::rule_id::RuleId;
 use crate::selector::{Selector, Which};
-
-/// From a place, up to another.
-#[derive(Clone, Copy, Drop)]
-pub struct Span {
-    pub from: usize,
-    pub to: usize,
-}
+use list_marks::{Span, mark_of, marked_span};
 
 /// A span outside of which no rule is selected. Where the numbers of the rules rise, one is searched for by halves; a
 /// label is searched for among the marks.
@@ -35,7 +28,7 @@ pub(crate) fn span_of(rules: &[HeldRule], marks: &[u32], rising: bool, selector:
             from: 0,
             to: rules.len(),
         },
-        Which::Label(label) => span_of_label(marks, label),
+        Which::Label(label) => marked_span(marks, mark_of(label.as_slice())),
     }
 }
 

@@ -14,7 +14,6 @@ use crate::fault::PlanFault;
 use crate::found::Found;
 use crate::held_rule::HeldRule;
 use crate::kind::Kind;
-use crate::marks::mark_of;
 use crate::moment::Moment;
 use crate::prepared::{Prepared, Step};
 use crate::rooms::{Room, pushed, reserve_mark, room_behind};
@@ -27,6 +26,7 @@ use crate::span::rises_with;
 use crate::tally::{refused, tallied};
 use crate::touched::Touched;
 use fact_values::Facts;
+use list_marks::mark_of;
 use policy_model::limits::MOST_RULES;
 use req_tree::Subject;
 use std::alloc::{AllocError, Global};
@@ -104,7 +104,7 @@ impl Table {
         ensures err { OnErr result (self.new ≡ self.old) }
     {
         let rising = rises_with(&self.rules, self.rising, &rule);
-        let mark = mark_of(&rule.label);
+        let mark = mark_of(rule.label.as_slice());
         let rule = HeldRule::new(self.alloc, rule)?;
         reserve_mark(&mut self.marks)?;
         pushed(&mut self.rules, rule)?;
@@ -188,7 +188,7 @@ impl Table {
             Step::Insert { rule, room } => {
                 self.rising = rises_with(&self.rules, self.rising, rule.get());
                 let Room { rules, marks } = room;
-                changes::insert(&mut self.marks, mark_of(&rule.get().label), marks);
+                changes::insert(&mut self.marks, mark_of(rule.get().label.as_slice()), marks);
                 changes::insert(&mut self.rules, rule, rules)
             }
             Step::Change { selector, change } => {

@@ -1,6 +1,6 @@
 use Rattle.std.proofs.Common.{◌+◌, arith}
-use Rattle.authority_table.proofs.Marked.{absent_before}
-use Rattle.authority_table.proofs.marks.first_near.Goals as goal
+use Rattle.list_marks.proofs.Absent.{absent_before}
+use Rattle.list_marks.proofs.search.first_near.Goals as goal
 
 pub loop-at-preserved : goal.loop-at-preserved
 loop-at-preserved c = (

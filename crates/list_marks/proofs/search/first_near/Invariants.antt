@@ -1,5 +1,5 @@
 use Rattle.std.specs.Prelude.{◌≢◌, ◌<◌, ◌≤◌, ◌-◌, ℕ, length, get_or}
-use Rattle.authority_table.proofs.marks.first_near.Given as goal
+use Rattle.list_marks.proofs.search.first_near.Given as goal
 
 abbrev pub invariant-loop-at : goal.invariant-loop-at
 invariant-loop-at l = (l.at ≤ length l.marks) × ((k d : ℕ) → k < l.at → get_or l.marks k d ≢ l.mark)

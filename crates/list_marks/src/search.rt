@@ -1,40 +1,14 @@
-//! Short numbers of labels, one for each rule: those of a label are found without a look at the others.
+//! Where in a list of marks the ones that are searched for stand.
 
-ghost use Rattle.std.specs.Prelude.{◌≡◌, ◌≢◌, ◌<◌, ◌≤◌, ℕ, List, false, length, get_or};
-ghost use Rattle.policy_model.specs.Rules.{Row};
-ghost use Rattle.policy_model.specs.Contents as model;
-ghost use Rattle.policy_model.specs.Contents.{by_label};
-ghost use Rattle.authority_table.specs.Label.{label_bytes};
-ghost use Rattle.authority_table.specs.Spans.{IsSpan};
-ghost use Rattle.authority_table.specs.Marks as marks;
-ghost use Rattle.authority_table.specs.Marks.{AreMarks};
+ghost use Rattle.std.specs.Prelude.{◌≡◌, ◌≢◌, ◌<◌, ◌≤◌, ℕ, false, length, get_or};
+ghost use Rattle.list_marks.specs.Spans.{IsMarkSpan};
 
-use crate::label::Label;
 use crate::span::Span;
 
-/// The mark of a label. Those of different labels are nearly always different.
-pub(crate) fn mark_of(label: &Label) -> u32
-    ensures { result ≡ marks.mark_of (label_bytes label.now) }
+/// A span outside of which none of the marks is this one.
+pub fn marked_span(marks: &[u32], mark: u32) -> Span
+    ensures { IsMarkSpan marks.now mark result }
 {
-    let mut mark = 0;
-    for byte in label.as_slice() {
-        mark = mixed(mark, *byte);
-    }
-    mark
-}
-
-/// The mark with one more byte.
-fn mixed(mark: u32, byte: u8) -> u32
-    ensures { result ≡ marks.mixed mark byte }
-{
-    ((mark as u64 * 16_777_619 + byte as u64) % 4_294_967_296) as u32
-}
-
-/// A span outside of which no rule has the label.
-pub(crate) fn span_of_label(marks: &[u32], label: &Label) -> Span
-    ensures { (selector : model.Selector) (rows : List Row) → selector.which ≡ by_label (label_bytes label.now) → AreMarks rows marks.now → IsSpan selector rows result }
-{
-    let mark = mark_of(label);
     let from = first_of(marks, mark);
     let to = end_of(marks, from, mark);
     Span { from, to }

@@ -1,6 +1,6 @@
 use Rattle.std.proofs.Common.{◌-◌, arith}
-use Rattle.authority_table.proofs.Marked.{absent_behind}
-use Rattle.authority_table.proofs.marks.end_near.Goals as goal
+use Rattle.list_marks.proofs.Absent.{absent_behind}
+use Rattle.list_marks.proofs.search.end_near.Goals as goal
 
 pub loop-to-preserved : goal.loop-to-preserved
 loop-to-preserved c =
