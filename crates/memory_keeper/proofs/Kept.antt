@@ -1,9 +1,9 @@
 -- Rows that are kept after a change of the selected rules.
-use Rattle.std.proofs.Common.{◌≡◌, ℤ, [], ◌∷◌, ◌++◌, Result, refl, sym, ap, ◌∙◌}
+use Rattle.std.proofs.Common.{◌≡◌, ℤ, List, [], ◌∷◌, ◌++◌, Result, refl, sym, ap, ◌∙◌}
 use Rattle.std.specs.Prelude.{OnOk}
 use Rattle.std.proofs.lemmas.Result.{on_ok_weaker}
 use Rattle.policy_model.specs.Contents.{Content}
-use Rattle.store_model.specs.Raw.{RawReceipt, RawTables}
+use Rattle.store_model.specs.Raw.{RawReceipt, RawRule, RawTables}
 use Rattle.store_model.specs.Change.{Change, raw_receipt_of, raw_switch_after, raw_rules_after, raw_after}
 use Rattle.authority_table.specs.declared.selector.Selector.{Selector}
 use Rattle.authority_table.specs.declared.row_change.RowChange.{RowChange}
@@ -35,3 +35,10 @@ changed result s r c old new receipt content same ok =
     ∙ (ap (λ x. rows_with c old x receipt (raw_switch_after x old.switch)) (sym content)
     ∙ ap (λ x. rows_with c old c.edit.content x (raw_switch_after c.edit.content old.switch)) same)))
     ok
+
+abbrev rows : ℤ → ℤ → List RawReceipt → List RawRule → RawTables
+rows format switched receipts rules = record { format = format; switch = switched; receipts = receipts; rules = rules }
+
+-- rows of equal receipts and equal rules
+pub same_rows : (format switched : ℤ) (receipts others : List RawReceipt) (rules changed : List RawRule) → receipts ≡ others → rules ≡ changed → rows format switched receipts rules ≡ rows format switched others changed
+same_rows format switched receipts others rules changed e is = ap (λ l. rows format switched l rules) e ∙ ap (rows format switched others) is

@@ -9,9 +9,8 @@ ghost use Rattle.policy_keeper.specs.Told.{Loads, Applies, CanApply};
 use crate::kept_rows::KeptRows;
 use gk_io::CallNumbers;
 use policy_keeper::{Change, KeepFault, Keeper};
-use raw_tables::{RawReceipts, RawRules, RawTables};
+use raw_tables::RawTables;
 use std::alloc::Global;
-use store_model::limits::STORE_FORMAT;
 
 /// Keeps the rows and tells them. All its calls are counted together, from 1.
 #[derive(Drop)]
@@ -23,6 +22,7 @@ pub struct MemoryKeeper {
 }
 
 impl MemoryKeeper {
+    ghost use Rattle.memory_keeper.specs.Kept.{kept_rows};
     ghost use Rattle.memory_keeper.specs.Memory.{kept, keeper_failing, keeper_calls, keeper_faults, no_rows};
 
     /// A keeper without rows, where assessments are switched on; none of its calls fail.
@@ -32,13 +32,7 @@ impl MemoryKeeper {
         ensures calls { keeper_calls result ≡ 0 }
         ensures faults { keeper_faults result ≡ 0 }
     {
-        let tables = RawTables {
-            format: STORE_FORMAT,
-            switch: 1,
-            receipts: RawReceipts::new(alloc),
-            rules: RawRules::new(alloc),
-        };
-        MemoryKeeper::with(tables, CallNumbers::new(alloc))
+        MemoryKeeper::over(KeptRows::new(alloc), CallNumbers::new(alloc))
     }
 
     /// A keeper with these rows, whose calls of these numbers fail.
@@ -48,8 +42,17 @@ impl MemoryKeeper {
         ensures calls { keeper_calls result ≡ 0 }
         ensures faults { keeper_faults result ≡ 0 }
     {
+        MemoryKeeper::over(KeptRows::of(tables), failing)
+    }
+
+    fn over(rows: KeptRows, failing: CallNumbers) -> MemoryKeeper
+        ensures kept { kept result ≡ kept_rows rows }
+        ensures failing { keeper_failing result ≡ failing }
+        ensures calls { keeper_calls result ≡ 0 }
+        ensures faults { keeper_faults result ≡ 0 }
+    {
         MemoryKeeper {
-            rows: KeptRows::of(tables),
+            rows,
             failing,
             calls: 0,
             faults: 0,
@@ -101,11 +104,10 @@ impl Keeper for MemoryKeeper {
         ensures failing { keeper_failing self.new ≡ keeper_failing self.old }
         ensures calls { keeper_calls self.new ≡ counted (keeper_calls self.old) }
     {
-        let _ = alloc;
         if self.fails() {
             return Err(KeepFault::Failed);
         }
-        let tables = self.rows.copied()?;
+        let tables = self.rows.copied(alloc)?;
         Ok(tables)
     }
 

@@ -8,13 +8,16 @@ ghost use Rattle.authority_table.specs.Selector.{content_by};
 ghost use Rattle.raw_tables.specs.Raw.{plain_receipt, plain_rule, plain_rules, plain_tables};
 ghost use Rattle.policy_keeper.specs.Change.{change_of};
 ghost use Rattle.memory_keeper.specs.Changes.{CanBeDisabled};
+ghost use Rattle.memory_keeper.specs.Spans.{AreRising};
 
-use crate::rules::change_rules;
+use crate::held_rules::HeldRules;
+use crate::kept_rules::KeptRules;
 use authority_table::{RowChange, Selector};
 use policy_keeper::{Change, added_rule};
-use raw_tables::{RawReceipt, RawReceipts, RawRule, RawRules, RawTables};
+use raw_tables::{RawReceipt, RawReceipts, RawRule, RawTables};
 use rule_edits::Content;
 use std::alloc::{AllocError, Global};
+use store_model::limits::STORE_FORMAT;
 
 /// All that is stored.
 #[derive(Drop)]
@@ -22,11 +25,24 @@ pub(crate) struct KeptRows {
     format: i64,
     switch: i64,
     receipts: RawReceipts,
-    rules: Vec<RawRule>,
+    rules: KeptRules,
 }
 
 impl KeptRows {
-    ghost use Rattle.memory_keeper.specs.Kept.{kept_rows};
+    ghost use Rattle.memory_keeper.specs.Kept.{rules_in, kept_rows};
+    ghost use Rattle.memory_keeper.specs.Memory.{no_rows};
+
+    /// No rows; assessments are switched on.
+    pub(crate) fn new(alloc: Global) -> KeptRows
+        ensures { kept_rows result ≡ no_rows }
+    {
+        KeptRows {
+            format: STORE_FORMAT,
+            switch: 1,
+            receipts: RawReceipts::new(alloc),
+            rules: KeptRules::Held(HeldRules::new(alloc)),
+        }
+    }
 
     pub(crate) fn of(tables: RawTables) -> KeptRows
         ensures { kept_rows result ≡ plain_tables tables }
@@ -35,20 +51,20 @@ impl KeptRows {
             format: tables.format,
             switch: tables.switch,
             receipts: tables.receipts,
-            rules: tables.rules.into_vec(),
+            rules: KeptRules::Given(tables.rules),
         }
     }
 
-    pub(crate) fn copied(&self) -> Result<RawTables, AllocError>
+    pub(crate) fn copied(&self, alloc: Global) -> Result<RawTables, AllocError>
         ensures { IfOk result (λ tables. plain_tables tables ≡ kept_rows self.now) }
     {
         let receipts = self.receipts.copied()?;
-        let rules = self.rules.clone()?;
+        let rules = self.rules.copied(alloc)?;
         Ok(RawTables {
             format: self.format,
             switch: self.switch,
             receipts,
-            rules: RawRules::from_vec(rules),
+            rules,
         })
     }
 
@@ -62,40 +78,50 @@ impl KeptRows {
         match &change.edit.content {
             Content::Add(rule) => {
                 let row = added_rule(alloc, change.number, rule)?;
-                self.add(receipt, row)
+                self.add(alloc, receipt, row)
             }
-            Content::Remove(selector) => self.change(receipt, selector, RowChange::Remove),
-            Content::Enable(selector) => self.change(receipt, selector, RowChange::Enable),
-            Content::Disable(selector) => self.change(receipt, selector, RowChange::Disable),
+            Content::Remove(selector) => {
+                self.change(alloc, receipt, selector, RowChange::Remove)
+            }
+            Content::Enable(selector) => {
+                self.change(alloc, receipt, selector, RowChange::Enable)
+            }
+            Content::Disable(selector) => {
+                self.change(alloc, receipt, selector, RowChange::Disable)
+            }
             Content::Expire(selector, end) => {
-                self.change(receipt, selector, RowChange::Expire(*end))
+                self.change(alloc, receipt, selector, RowChange::Expire(*end))
             }
             Content::Switch(on) => self.switch_to(receipt, *on),
         }
     }
 
     /// Keeps a receipt and a rule, or neither.
-    fn add(&mut self, receipt: RawReceipt, rule: RawRule) -> Result<(), AllocError>
+    fn add(&mut self, alloc: Global, receipt: RawReceipt, rule: RawRule) -> Result<(), AllocError>
         ensures ok { OnOk result (kept_rows self.new ≡ record (kept_rows self.old) {
           receipts = (kept_rows self.old).receipts ++ plain_receipt receipt ∷ [];
           rules = (kept_rows self.old).rules ++ plain_rule rule ∷ [];
         }) }
         ensures err { OnErr result (kept_rows self.new ≡ kept_rows self.old) }
     {
-        self.rules.reserve(1)?;
         self.receipts.push(receipt)?;
-        self.rules.push_reserved(rule);
-        Ok(())
+        let added = self.rules.push(alloc, rule);
+        if added.is_err() {
+            self.receipts.pop();
+        }
+        added
     }
 
     /// Keeps a receipt and changes the selected rules, or does neither.
     fn change(
         &mut self,
+        alloc: Global,
         receipt: RawReceipt,
         selector: &Selector,
         change: RowChange,
     ) -> Result<(), AllocError>
-        requires { ∥ All CanBeDisabled (plain_rules self.old.rules.items) ∥₁ }
+        requires counted { ∥ All CanBeDisabled (kept_rows self.old).rules ∥₁ }
+        requires rising { ∥ AreRising (kept_rows self.old).rules ∥₁ }
         ensures ok { (n : ℕ) → OnOk result (kept_rows self.new ≡ record (kept_rows self.old) {
           receipts = (kept_rows self.old).receipts ++ plain_receipt receipt ∷ [];
           rules = raw_rules_after n (content_by selector.now change) (kept_rows self.old).rules;
@@ -103,8 +129,11 @@ impl KeptRows {
         ensures err { OnErr result (kept_rows self.new ≡ kept_rows self.old) }
     {
         self.receipts.push(receipt)?;
-        change_rules(&mut self.rules, selector, &change);
-        Ok(())
+        let changed = self.rules.change(alloc, selector, &change);
+        if changed.is_err() {
+            self.receipts.pop();
+        }
+        changed
     }
 
     /// Keeps a receipt and switches assessments, or does neither.

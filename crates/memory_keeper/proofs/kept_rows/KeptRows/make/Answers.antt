@@ -5,21 +5,33 @@ use Rattle.rule_edits.specs.Edit.{content_of}
 use Rattle.raw_tables.specs.Raw.{plain_receipt}
 use Rattle.policy_keeper.specs.Change.{change_of}
 use Rattle.memory_keeper.specs.Kept.{kept_rows}
-use Rattle.memory_keeper.proofs.Counted.{counted}
+use Rattle.memory_keeper.proofs.Counted.{counted, rising}
 use Rattle.memory_keeper.proofs.Kept.{changed}
 use Rattle.memory_keeper.proofs.kept_rows.KeptRows.make.Goals as goal
 
 pub change-requires : goal.change-requires
-change-requires c = ∥∥₁_map c.requires (counted (kept_rows c.args.self.now))
+change-requires c = record {
+  counted = ∥∥₁_map c.requires (counted (kept_rows c.args.self.now));
+  rising = ∥∥₁_map c.requires (rising (kept_rows c.args.self.now));
+}
 
 pub change-requires-in-Enable : goal.change-requires-in-Enable
-change-requires-in-Enable c = ∥∥₁_map c.requires (counted (kept_rows c.args.self.now))
+change-requires-in-Enable c = record {
+  counted = ∥∥₁_map c.requires (counted (kept_rows c.args.self.now));
+  rising = ∥∥₁_map c.requires (rising (kept_rows c.args.self.now));
+}
 
 pub change-requires-in-Disable : goal.change-requires-in-Disable
-change-requires-in-Disable c = ∥∥₁_map c.requires (counted (kept_rows c.args.self.now))
+change-requires-in-Disable c = record {
+  counted = ∥∥₁_map c.requires (counted (kept_rows c.args.self.now));
+  rising = ∥∥₁_map c.requires (rising (kept_rows c.args.self.now));
+}
 
 pub change-requires-in-Expire : goal.change-requires-in-Expire
-change-requires-in-Expire c = ∥∥₁_map c.requires (counted (kept_rows c.args.self.now))
+change-requires-in-Expire c = record {
+  counted = ∥∥₁_map c.requires (counted (kept_rows c.args.self.now));
+  rising = ∥∥₁_map c.requires (rising (kept_rows c.args.self.now));
+}
 
 pub returns-in-Remove-clause-ok : goal.returns-in-Remove-clause-ok
 returns-in-Remove-clause-ok c =
