@@ -126,6 +126,53 @@ fn each_change_that_fails_leaves_the_tables_as_they_were(rt: HostRuntime) {
     assert!(rt; fails_everywhere(rt.alloc()));
 }
 
+// Rules of one label with others between them, which change together.
+#[rattlefmt::skip]
+const OF_A_LABEL: [Row; 11] = [
+    Row { line: b"add m1 install allow 3 never L - always", reply: b"ok edit=1 rules=1" },
+    Row { line: b"add m2 install deny 4 never M - never", reply: b"ok edit=2 rules=1" },
+    Row { line: b"add m3 execute allow 5 never L - never", reply: b"ok edit=3 rules=1" },
+    Row { line: b"add m4 install allow 5 never L - never", reply: b"ok edit=4 rules=1" },
+    Row { line: b"add m5 open deny 6 never N - never", reply: b"ok edit=5 rules=1" },
+    Row { line: b"disable m6 label L install", reply: b"ok edit=6 rules=2" },
+    Row { line: b"remove m7 label L install", reply: b"ok edit=7 rules=2" },
+    Row { line: b"expire m8 label L any 2000000000", reply: b"ok edit=8 rules=1" },
+    Row { line: b"remove m9 id 5 any", reply: b"ok edit=9 rules=1" },
+    Row { line: b"disable m10 label M any", reply: b"ok edit=10 rules=1" },
+    Row { line: b"remove m11 id 3 execute", reply: b"ok edit=11 rules=1" },
+];
+
+/// The edits over a keeper, up to this place by one desk, and from there on by another that is loaded then: each load
+/// gives a desk like the one that made the edits.
+fn is_loaded_at(alloc: Global, place: usize) -> bool {
+    let Some(mut keeper) = failing(alloc, 1_000) else {
+        return false;
+    };
+    let Some((before, behind)) = OF_A_LABEL.split_at_checked(place) else {
+        return false;
+    };
+    let Some(mut desk) = opened(alloc, &mut keeper) else {
+        return false;
+    };
+    let replied = all_replied(alloc, &mut desk, &mut keeper, before);
+    let goes_on = goes_on(alloc, &desk, &mut keeper, behind);
+    replied && goes_on
+}
+
+fn is_loaded_everywhere(alloc: Global) -> bool {
+    let mut all = true;
+    for place in 0..OF_A_LABEL.len() {
+        let is = is_loaded_at(alloc, place);
+        all = all && is;
+    }
+    all
+}
+
+#[test]
+fn rules_of_a_label_are_kept_as_the_desk_has_them(rt: HostRuntime) {
+    assert!(rt; is_loaded_everywhere(rt.alloc()));
+}
+
 fn no_desk(alloc: Global) -> bool {
     match failing(alloc, 1) {
         None => false,
