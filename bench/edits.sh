@@ -1,8 +1,9 @@
 #!/usr/bin/env bash
 # usage: bench/edits.sh [RUNS]
-# Times edits in sessions of the freshly built program: by a rule's number, by a label, and removals by label with a rule
-# added for each, with 100 rules and with 10,000 rules and 50,000 receipts. Prints as a table the microseconds of
-# processor time that one edit takes, the median of RUNS, and how many times as long it takes with many rules.
+# Times edits in sessions of the freshly built program: by a rule's number, by a label, removals by label with a rule
+# added for each, and edits of all kinds by turns, with 100 rules and with 10,000 rules and 50,000 receipts. Prints as a
+# table the microseconds of processor time that one edit takes, the median of RUNS, and how many times as long it takes
+# with many rules.
 cd "$(dirname "$0")/.." || exit 1
 
 runs=${1:-7}
@@ -22,8 +23,17 @@ session() {
       for (r = rules; r < receipts; r++) printf "switch s%d on\n", r
       for (i = 0; i < edits; i++) {
         which = (i * 7919) % rules
+        pair = 2 * ((int(i / 6) * 7919) % (rules / 2))
         if (kind == "number") printf "%s e%d id %d any\n", (i % 2) ? "enable" : "disable", i, which + 1
         else if (kind == "label") printf "%s e%d label com.example.app%d any\n", (i % 2) ? "enable" : "disable", i, which
+        else if (kind == "turns") {
+          if (i % 6 == 0) printf "disable e%d id %d any\n", i, pair + 1
+          else if (i % 6 == 1) printf "remove e%d label com.example.app%d any\n", i, pair + 1
+          else if (i % 6 == 2) printf "expire e%d label com.example.app%d any never\n", i, pair
+          else if (i % 6 == 3) add("e" i, pair + 1)
+          else if (i % 6 == 4) printf "enable e%d label com.example.app%d any\n", i, pair
+          else printf "switch e%d on\n", i
+        }
         else if (i % 2) add("e" i, (int(i / 2) * 7919) % rules)
         else printf "remove e%d label com.example.app%d any\n", i, (int(i / 2) * 7919) % rules
       }
@@ -54,7 +64,7 @@ for_each_edit() {
 
 echo "| Edits | 100 rules | 10,000 rules | Times as long |"
 echo "|---|---|---|---|"
-for kind in number label removal; do
+for kind in number label removal turns; do
   few=$(for_each_edit 100 100 "$kind" 40000)
   many=$(for_each_edit 10000 50000 "$kind" 40000)
   awk -v kind="$kind" -v a="$few" -v b="$many" 'BEGIN { printf "| by %s | %.1f us | %.1f us | %.1f |\n", kind, a, b, b / a }'
