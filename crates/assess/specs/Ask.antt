@@ -1,7 +1,7 @@
 -- The program's asks as those of the definitions.
 use Rattle.std.specs.Prelude.{option_map}
 use Rattle.req_tree.specs.Subject.{subject_of}
-use Rattle.authority_table.specs.Kind.{kind_of}
+use Rattle.rule_values.specs.Kind.{kind_of}
 use Rattle.policy_model.specs.Outcomes.{Ask}
 use Rattle.assess.specs.declared.ask.Ask as code
 

@@ -4,8 +4,8 @@ ghost use Rattle.std.specs.Prelude.{◌≡◌, option_map};
 ghost use Rattle.req_tree.specs.Subject.{subject_of};
 ghost use Rattle.assess.specs.Ask.{ask_of};
 
-use authority_table::Kind;
 use req_tree::Subject;
+use rule_values::Kind;
 
 /// Whether this code may be executed, installed or opened.
 #[derive(Drop)]

@@ -9,18 +9,18 @@ ghost use Rattle.policy_model.specs.Rules as model;
 ghost use Rattle.policy_model.specs.Rules.{Row, is_below};
 ghost use Rattle.policy_model.specs.Outcomes as policy;
 ghost use Rattle.fact_values.specs.Knowledge.{known_in};
-ghost use Rattle.authority_table.specs.Kind.{kind_of};
-ghost use Rattle.authority_table.specs.Rule.{row_of, rows_of};
+ghost use Rattle.rule_values.specs.Kind.{kind_of};
+ghost use Rattle.rule_values.specs.Rule.{row_of, rows_of};
 ghost use Rattle.authority_table.specs.Found.{row_found};
-ghost use Rattle.authority_table.specs.Outcome.{outcome_of};
+ghost use Rattle.rule_values.specs.Outcome.{outcome_of};
 ghost use Rattle.authority_table.specs.Snapshot.{IsByRank};
 ghost use Rattle.assess.specs.Tests.{holds, AllOfKind};
 
-use authority_table::{Kind, Label, Moment, Outcome, Rule};
 use fact_values::Facts;
 use policy_model::limits::DEFAULT_SECONDS;
 use req_eval::eval;
 use req_tree::Subject;
+use rule_values::{Kind, Label, Moment, Outcome, Rule};
 
 /// What the rules of a kind say of a subject at a moment, of whose hash these facts are known, or none.
 pub fn judge(

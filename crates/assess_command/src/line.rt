@@ -12,7 +12,7 @@ ghost use Rattle.desk_state.specs.Verdict.{verdict_of, origin_of};
 ghost use Rattle.session_model.specs.Finishing.{finished_text};
 ghost use Rattle.policy_model.specs.declared.limits.TheConstants.{GREATEST_MOMENT};
 ghost use Rattle.policy_model.specs.History.{Event, Opening};
-ghost use Rattle.authority_table.specs.Kind.{kind_of};
+ghost use Rattle.rule_values.specs.Kind.{kind_of};
 ghost use Rattle.assess.specs.Ask.{ask_of};
 ghost use Rattle.object_model.specs.OfDesk.{IsTicketOfDesk};
 ghost use Rattle.desk_state.specs.Stands.{plain, Stands};
@@ -22,11 +22,11 @@ ghost use Rattle.assess_command.specs.Assessments.{Assesses, IsAnswered, assesse
 ghost use Rattle.assess_command.specs.Assessments as spec;
 
 use crate::files::subject_in;
-use authority_table::{Kind, Moment};
 use code_directory::CodeFault;
 use desk_state::{Ask, Begun, Desk, Offered, Ticket, Verdict};
 use line_text::LineText;
 use policy_model::limits::GREATEST_MOMENT;
+use rule_values::{Kind, Moment};
 use std::alloc::{AllocError, Global};
 
 /// What an assessment came to.

@@ -2,8 +2,8 @@
 use Rattle.std.proofs.Common.{◌≡◌, ℕ, suc, ◌+◌, ◌<◌, length, drop, get_or, drop-cons, List, [], ◌∷◌, ◌++◌, sym, ap, ◌∙◌, append_assoc, arith, subst}
 use Rattle.std.specs.Prelude.{Bool, true, false, if◌then◌else◌}
 use Rattle.policy_model.specs.Rules.{Row, Kind, same_kind}
-use Rattle.authority_table.specs.declared.rule.Rule.{Rule}
-use Rattle.authority_table.specs.Rule.{row_of, rows_of}
+use Rattle.rule_values.specs.declared.rule.Rule.{Rule}
+use Rattle.rule_values.specs.Rule.{row_of, rows_of}
 use Rattle.std.specs.List.Sorted.{IsPermutation}
 use Rattle.std.proofs.lemmas.List.Sorted.{IsPermutation-map}
 use Rattle.authority_table.specs.Snapshot.{of_kind, IsByRank, IsSnapshot}

@@ -1,7 +1,7 @@
 -- A search that goes on by one more rule.
 use Rattle.std.proofs.lemmas.List.{map_more}
-use Rattle.authority_table.specs.declared.rule.Rule.{Rule}
-use Rattle.authority_table.specs.Rule.{row_of, rows_of}
+use Rattle.rule_values.specs.declared.rule.Rule.{Rule}
+use Rattle.rule_values.specs.Rule.{row_of, rows_of}
 use Rattle.std.proofs.Common.{◌≡◌, ℕ, ◌+◌, ◌<◌, length, take, get_or, List, [], ◌∷◌, ◌++◌, sym, subst, ap, ◌∙◌}
 use Rattle.std.specs.Prelude.{Bool, true, false, nat_lt, Option, Some}
 use Rattle.std.proofs.lemmas.Bool.{both_ways}

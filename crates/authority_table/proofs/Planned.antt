@@ -12,29 +12,30 @@ use Rattle.policy_model.specs.Contents.{NewRow, add, remove, enable, disable, ex
 use Rattle.policy_model.specs.Changes.{rows_after, touched_by}
 use Rattle.policy_model.specs.Tables.{table_full}
 use Rattle.policy_model.specs.Refusals.{full_rows, least_id, refused_by_rows, refused_by_count}
-use Rattle.authority_table.specs.declared.rule.Rule.{Rule}
+use Rattle.rule_values.specs.declared.rule.Rule.{Rule}
 use Rattle.authority_table.specs.declared.tally.Tally.{Tally}
 use Rattle.authority_table.specs.declared.touched.Touched.{Touched}
-use Rattle.authority_table.specs.declared.selector.Selector as code
-use Rattle.authority_table.specs.declared.row_change.RowChange.{RowChange}
-use Rattle.authority_table.specs.declared.row_change.RowChange.TheVariants.{Remove, Enable, Disable, Expire}
-use Rattle.authority_table.specs.declared.rooms.Room.{Room}
+use Rattle.rule_values.specs.declared.selector.Selector as code
+use Rattle.rule_values.specs.declared.row_change.RowChange.{RowChange}
+use Rattle.rule_values.specs.declared.row_change.RowChange.TheVariants.{Remove, Enable, Disable, Expire}
+use Rattle.held_rules.specs.declared.rooms.Room.{Room}
 use Rattle.authority_table.specs.declared.prepared.Step.TheVariants.{Insert, Change}
 use Rattle.authority_table.specs.declared.prepared.Prepared.{Prepared}
-use Rattle.authority_table.specs.Rule.{row_of, rows_of}
-use Rattle.authority_table.specs.Rooms.{room_for}
+use Rattle.rule_values.specs.Rule.{row_of, rows_of}
+use Rattle.held_rules.specs.Rooms.{room_for}
 use Rattle.authority_table.specs.Held.{IsHeld}
 use Rattle.authority_table.specs.Touched.{IsTouched}
 use Rattle.authority_table.specs.Tally.{IsTally}
-use Rattle.authority_table.specs.Selector.{selector_of, content_by}
-use Rattle.authority_table.specs.Prepared.{HasRoom, IsSpare, Takes, stepped, IsPlanFor, planned, IsPlan}
-use Rattle.authority_table.specs.Spans.{AreRising}
-use Rattle.authority_table.specs.Label.{label_bytes}
+use Rattle.rule_values.specs.Selector.{selector_of, content_by}
+use Rattle.authority_table.specs.Prepared.{Takes, stepped, IsPlanFor, planned, IsPlan}
+use Rattle.held_rules.specs.Spare.{HasRoom, IsSpare}
+use Rattle.held_rules.specs.Spans.{AreRising}
+use Rattle.rule_values.specs.Label.{label_bytes}
 use Rattle.list_marks.specs.Marks.{mark_of}
-use Rattle.authority_table.specs.Marks.{row_mark, AreMarks}
+use Rattle.held_rules.specs.Marks.{row_mark, AreMarks}
 use Rattle.authority_table.proofs.RoomFor.{room_grows, room_holds}
-use Rattle.authority_table.proofs.Rising.{rising_after}
-use Rattle.authority_table.proofs.Marked.{marks_more}
+use Rattle.authority_table.proofs.StillRising.{rising_after}
+use Rattle.authority_table.proofs.OneMoreMark.{marks_more}
 use Rattle.authority_table.proofs.TallyGoesOn.{none_full, rows_by, touched_rows}
 
 -- a full table refuses one more, and no other does

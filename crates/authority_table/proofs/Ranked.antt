@@ -15,9 +15,9 @@ use Rattle.std.proofs.lemmas.Fn.{always_returns_same}
 use Rattle.std.proofs.lemmas.List.Sorted.{sorted_far}
 use denote.Param.Members.{Mut}
 use Rattle.policy_model.specs.Rules.{Rank, rank_of, Before, is_before}
-use Rattle.authority_table.specs.declared.rule.Rule.{Rule}
-use Rattle.authority_table.specs.Rank.{rank_cmp}
-use Rattle.authority_table.specs.Rule.{row_of, rows_of}
+use Rattle.rule_values.specs.declared.rule.Rule.{Rule}
+use Rattle.rule_values.specs.Rank.{rank_cmp}
+use Rattle.rule_values.specs.Rule.{row_of, rows_of}
 use Rattle.authority_table.specs.Snapshot.{IsByRank}
 
 less_of : (t e : Bool) → is_lt (cond t Less (cond e Equal Greater)) ≡ t

@@ -2,7 +2,7 @@
 use Rattle.std.proofs.Common.{ℕ, ◌≤◌, arith}
 use Rattle.std.proofs.lemmas.Bool.Decides.{nat_tests}
 use Rattle.policy_model.specs.declared.limits.TheConstants.{MOST_RULES}
-use Rattle.authority_table.specs.Rooms.{room_for}
+use Rattle.held_rules.specs.Rooms.{room_for}
 
 -- it is enough
 pub room_holds : (n : ℕ) → n ≤ MOST_RULES → n ≤ room_for n

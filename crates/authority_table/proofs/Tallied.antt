@@ -2,6 +2,7 @@
 use Rattle.std.proofs.Common.{◌≡◌, ℕ, suc, ◌≤◌, length, List, [], ◌∷◌, ◌++◌, append-nil, refl, ap, ◌∙◌, arith}
 use Rattle.std.specs.Prelude.{Bool, true, false, cond, ◌&&◌, ◌||◌, nat_lt, nat_le, Option, Some, None}
 use Rattle.std.specs.List.{filter, list_any}
+use Rattle.std.proofs.Math.Bool.{false-and}
 use Rattle.std.proofs.lemmas.Bool.Decides.{nat_tests}
 use Rattle.std.proofs.lemmas.List.Elements.{filter-append}
 use Rattle.policy_model.specs.Rules.{Row}
@@ -42,14 +43,9 @@ pub full_passed : (s : Selector) (rows : List Row) (r : Row) → nat_le MOST_DIS
     least_id (full_rows (disable s) (rows ++ r ∷ [])) ≡ least_id (full_rows (disable s) rows)
 full_passed s rows r full sel = ap least_id (filter_passed (is_full s) rows r (both _ _ true false sel full))
 
--- a test that needs two facts, of which one fails
-pub and_false : (b : Bool) → (false && b) ≡ false
-and_false true = refl
-and_false false = refl
-
 -- one more row that isn't selected
 pub unselected_passed : (s : Selector) (rows : List Row) (r : Row) → selects s r ≡ false → full_rows (disable s) (rows ++ r ∷ []) ≡ full_rows (disable s) rows
-unselected_passed s rows r sel = filter_passed (is_full s) rows r (ap (λ c. c && nat_le MOST_DISABLES r.disabled) sel ∙ and_false (nat_le MOST_DISABLES r.disabled))
+unselected_passed s rows r sel = filter_passed (is_full s) rows r (ap (λ c. c && nat_le MOST_DISABLES r.disabled) sel ∙ false-and (nat_le MOST_DISABLES r.disabled))
 
 filter_cons : (b : Bool) (x : Row) (xs : List Row) (n : ℕ) → length xs ≤ n → length (cond b (x ∷ xs) xs) ≤ suc n
 filter_cons true x xs n h = omega (arith, h)

@@ -10,15 +10,15 @@ use Rattle.policy_model.specs.Contents.{Selector, Content, disable}
 use Rattle.policy_model.specs.Changes.{selects, rows_after, touched_by}
 use Rattle.policy_model.specs.Tables.{Answer, no_rule, disable_full}
 use Rattle.policy_model.specs.Refusals.{full_rows, least_id, refused_by_rows, refused_by_count, none_selected}
-use Rattle.authority_table.specs.declared.rule.Rule.{Rule}
+use Rattle.rule_values.specs.declared.rule.Rule.{Rule}
 use Rattle.authority_table.specs.declared.tally.Tally.{Tally}
-use Rattle.authority_table.specs.declared.selector.Selector as code
-use Rattle.authority_table.specs.declared.row_change.RowChange.{RowChange}
-use Rattle.authority_table.specs.declared.row_change.RowChange.TheVariants.{Remove, Enable, Disable, Expire}
-use Rattle.authority_table.specs.Rule.{row_of, rows_of}
+use Rattle.rule_values.specs.declared.selector.Selector as code
+use Rattle.rule_values.specs.declared.row_change.RowChange.{RowChange}
+use Rattle.rule_values.specs.declared.row_change.RowChange.TheVariants.{Remove, Enable, Disable, Expire}
+use Rattle.rule_values.specs.Rule.{row_of, rows_of}
 use Rattle.authority_table.specs.Touched.{IsTouched}
 use Rattle.authority_table.specs.Tally.{IsTally}
-use Rattle.authority_table.specs.Selector.{selector_of, content_by}
+use Rattle.rule_values.specs.Selector.{selector_of, content_by}
 use Rattle.authority_table.proofs.Tallied.{filter_last, filter_passed, unselected_passed, filter_fewer, any_kept}
 
 -- the row is selected

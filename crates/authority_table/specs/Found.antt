@@ -6,8 +6,8 @@ use Rattle.req_tree.specs.Subject.{Subject}
 use Rattle.req_tree.specs.Facts.{Facts}
 use Rattle.policy_model.specs.Rules.{Row, Kind, Governs, IsLatent}
 use Rattle.authority_table.specs.declared.found.Found.{Found}
-use Rattle.authority_table.specs.declared.rule.Rule.{Rule}
-use Rattle.authority_table.specs.Rule.{row_of}
+use Rattle.rule_values.specs.declared.rule.Rule.{Rule}
+use Rattle.rule_values.specs.Rule.{row_of}
 
 -- the row of a rule that was found
 abbrev pub row_found : Option (Bor Rule) → Option Row

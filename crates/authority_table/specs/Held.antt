@@ -3,11 +3,11 @@ use Rattle.std.specs.Prelude.{◌≡◌, ◌≤◌, ℕ, length, Bool, true, vec
 use Rattle.std.specs.declared.vec.Vec.{Vec}
 use Rattle.std.specs.declared.alloc.Global.{Global}
 use Rattle.policy_model.specs.declared.limits.TheConstants.{MOST_RULES}
-use Rattle.authority_table.specs.declared.rule.Rule.{Rule}
-use Rattle.authority_table.specs.Rule.{rows_of}
-use Rattle.authority_table.specs.Rooms.{room_for}
-use Rattle.authority_table.specs.Spans.{AreRising}
-use Rattle.authority_table.specs.Marks.{AreMarks}
+use Rattle.rule_values.specs.declared.rule.Rule.{Rule}
+use Rattle.rule_values.specs.Rule.{rows_of}
+use Rattle.held_rules.specs.Rooms.{room_for}
+use Rattle.held_rules.specs.Spans.{AreRising}
+use Rattle.held_rules.specs.Marks.{AreMarks}
 
 -- there aren't too many, both lists have the memory that so many rules have at least, the marks are the rules', and the numbers of the rules rise where it is said so
 pub record IsHeld (rules : Vec Rule Global) (marks : Vec ℕ Global) (rising : Bool) : Type 0 where

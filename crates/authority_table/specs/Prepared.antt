@@ -1,21 +1,17 @@
 -- What a plan of an edit does to the rows of the table that it was made for.
-use Rattle.std.specs.Prelude.{◌≡◌, ℕ, ◌+◌, ◌<◌, ◌≤◌, max, List, [], ◌∷◌, ◌++◌, length, Option, Some, None, option_map, Result, Ok, Err, vec_capacity}
-use Rattle.std.specs.declared.vec.Vec.{Vec}
-use Rattle.std.specs.declared.alloc.Global.{Global}
-use Rattle.policy_model.specs.declared.limits.TheConstants.{MOST_RULES}
+use Rattle.std.specs.Prelude.{◌≡◌, ℕ, List, [], ◌∷◌, ◌++◌, length, Option, Some, None, option_map, Result, Ok, Err}
 use Rattle.policy_model.specs.Rules.{Row, Rank, Kind, same_kind, rank_of, first}
 use Rattle.policy_model.specs.Tables.{Answer, no_rule, table_full, disable_full}
 use Rattle.policy_model.specs.Changes.{rows_after}
 use Rattle.policy_model.specs.Refusals.{full_rows, least_id}
 use Rattle.authority_table.specs.declared.fault.PlanFault.{PlanFault}
 use Rattle.authority_table.specs.declared.fault.PlanFault.TheVariants.{TableFull, NoRule, DisableFull, OutOfMemory}
-use Rattle.authority_table.specs.declared.rooms.Room.{Room}
 use Rattle.authority_table.specs.declared.prepared.Step.{Step}
 use Rattle.authority_table.specs.declared.prepared.Step.TheVariants.{Insert, Change}
 use Rattle.authority_table.specs.declared.prepared.Prepared.{Prepared}
-use Rattle.authority_table.specs.Rule.{row_of}
-use Rattle.authority_table.specs.Rooms.{room_for}
-use Rattle.authority_table.specs.Selector.{content_by}
+use Rattle.rule_values.specs.Rule.{row_of}
+use Rattle.held_rules.specs.Spare.{HasRoom}
+use Rattle.rule_values.specs.Selector.{content_by}
 use Rattle.authority_table.specs.Touched.{touched_in}
 
 -- the refusal, or none where it is out of memory
@@ -34,17 +30,6 @@ refusal_in (Err fault) = refusal_of fault
 abbrev pub refused_in : Option PlanFault → Option Answer
 refused_in None = None
 refused_in (Some fault) = refusal_of fault
-
--- a list of so many has memory for one more: its own, or that of this empty one
-pub record IsSpare {X : Type 0} (count : ℕ) (room : Vec X Global) : Type 0 where
-  pub empty : room.items ≡ []
-  pub enough : room_for (count + 1) ≤ max (room_for count) (vec_capacity room)
-
--- a table of so many rules takes one more, and there is memory for it: the table's own, or this room
-pub record HasRoom (count : ℕ) (room : Room) : Type 0 where
-  pub few : count < MOST_RULES
-  pub rules : IsSpare count room.rules
-  pub marks : IsSpare count room.marks
 
 -- what a step needs of the rows: room for an added rule; no row to be disabled whose count is full
 abbrev pub Takes : Step → List Row → Type 0

@@ -2,7 +2,7 @@
 use Rattle.std.specs.Prelude.{◌≡◌, List, Option, option_map}
 use Rattle.policy_model.specs.Rules.{Row, Rank, Kind, execute, install, document, same_kind, rank_of, first}
 use Rattle.authority_table.specs.declared.touched.Touched.{Touched}
-use Rattle.authority_table.specs.Rank.{rank_view}
+use Rattle.rule_values.specs.Rank.{rank_view}
 
 -- the rank that is noted for a kind
 abbrev pub touched_in : Touched → Kind → Option Rank

@@ -1,6 +1,6 @@
 //! Why an edit can't be planned.
 
-use crate::rule_id::RuleId;
+use rule_values::RuleId;
 use std::alloc::AllocError;
 
 /// The first of these, in this order; the table is as before. Only `OutOfMemory` comes after memory was asked for.

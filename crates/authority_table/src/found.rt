@@ -6,15 +6,13 @@ ghost use Rattle.req_tree.specs.Facts.{known_of};
 ghost use Rattle.req_tree.specs.Subject.{subject_of};
 ghost use Rattle.policy_model.specs.Rules as model;
 ghost use Rattle.fact_values.specs.Knowledge.{known_in};
-ghost use Rattle.authority_table.specs.Kind.{kind_of};
+ghost use Rattle.rule_values.specs.Kind.{kind_of};
 
-use crate::held_rule::HeldRule;
-use crate::kind::Kind;
-use crate::moment::Moment;
-use crate::rule::Rule;
 use fact_values::Facts;
+use held_rules::HeldRule;
 use policy_model::laws::search_goes_on;
 use req_tree::Subject;
+use rule_values::{Kind, Moment, Rule};
 
 /// What a search of the rules found.
 #[derive(Clone, Copy, Drop)]
@@ -26,7 +24,7 @@ pub struct Found<'a> {
 }
 
 impl<'a> Found<'a> {
-    ghost use Rattle.authority_table.specs.Rule.{row_of};
+    ghost use Rattle.rule_values.specs.Rule.{row_of};
     ghost use Rattle.authority_table.specs.Found.{IsFound};
 
     /// What a search finds that also looks at this rule, if its requirement can hold.
@@ -78,7 +76,7 @@ impl<'a> Found<'a> {
     }
 }
 
-ghost use Rattle.authority_table.specs.Rule.{row_of};
+ghost use Rattle.rule_values.specs.Rule.{row_of};
 ghost use Rattle.authority_table.specs.Found.{row_found};
 
 /// The one that is tried first, of a rule that was found before and this one, if it applies. Whether it

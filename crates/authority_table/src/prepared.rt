@@ -1,16 +1,12 @@
 //! An edit that is ready to be made: all that can be wanting is there.
 
 ghost use Rattle.std.specs.Prelude.{◌≡◌, option_map};
-ghost use Rattle.authority_table.specs.Kind.{kind_of};
-ghost use Rattle.authority_table.specs.Rank.{rank_view};
+ghost use Rattle.rule_values.specs.Kind.{kind_of};
+ghost use Rattle.rule_values.specs.Rank.{rank_view};
 
-use crate::held_rule::HeldRule;
-use crate::kind::Kind;
-use crate::rank::Rank;
-use crate::rooms::Room;
-use crate::row_change::RowChange;
-use crate::selector::Selector;
 use crate::touched::Touched;
+use held_rules::{HeldRule, Room};
+use rule_values::{Kind, Rank, RowChange, Selector};
 
 /// What is done to the rules.
 #[derive(Drop)]

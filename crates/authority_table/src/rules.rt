@@ -2,10 +2,10 @@
 
 ghost use Rattle.std.specs.Prelude.{◌≡◌, [], ◌∷◌, ◌++◌, OnOk, OnErr};
 ghost use Rattle.std.specs.List.Sorted.{IsPermutation};
-ghost use Rattle.authority_table.specs.Rule.{rows_of};
+ghost use Rattle.rule_values.specs.Rule.{rows_of};
 ghost use Rattle.authority_table.specs.Snapshot.{IsByRank};
 
-use crate::rule::Rule;
+use rule_values::Rule;
 use std::alloc::{AllocError, Global};
 use std::marker::Model;
 
@@ -18,8 +18,8 @@ pub struct Rules {
 impl Model for Rules {
     ghost use Rattle.std.specs.Prelude.{List};
     ghost use Rattle.std.specs.Coded.{coded_list};
-    ghost use Rattle.authority_table.specs.declared.rule.Rule.{Rule};
-    ghost use Rattle.authority_table.specs.contracts.rule.Rule as rule_contract;
+    ghost use Rattle.rule_values.specs.declared.rule.Rule.{Rule};
+    ghost use Rattle.rule_values.specs.contracts.rule.Rule as rule_contract;
 
     ghost Value = { List Rule };
 

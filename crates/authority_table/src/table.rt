@@ -7,28 +7,20 @@ ghost use Rattle.req_tree.specs.Facts.{known_of};
 ghost use Rattle.fact_values.specs.Knowledge.{known_in};
 ghost use Rattle.req_tree.specs.Subject.{subject_of};
 ghost use Rattle.policy_model.specs.declared.limits.TheConstants.{MOST_RULES};
-ghost use Rattle.authority_table.specs.Kind.{kind_of};
+ghost use Rattle.rule_values.specs.Kind.{kind_of};
 
-use crate::changes;
 use crate::fault::PlanFault;
 use crate::found::Found;
-use crate::held_rule::HeldRule;
-use crate::kind::Kind;
-use crate::moment::Moment;
 use crate::prepared::{Prepared, Step};
-use crate::rooms::{Room, pushed, reserve_mark, room_behind};
-use crate::row_change::RowChange;
-use crate::rule::Rule;
-use crate::rule_id::RuleId;
 use crate::rules::Rules;
-use crate::selector::Selector;
-use crate::span::rises_with;
 use crate::tally::{refused, tallied};
 use crate::touched::Touched;
 use fact_values::Facts;
+use held_rules::{HeldRule, Room, changes, pushed, reserve_mark, rises_with, room_behind};
 use list_marks::mark_of;
 use policy_model::limits::MOST_RULES;
 use req_tree::Subject;
+use rule_values::{Kind, Moment, RowChange, Rule, RuleId, Selector};
 use std::alloc::{AllocError, Global};
 use std::marker::Model;
 use std::sync::Arc;
@@ -48,8 +40,8 @@ impl Model for Table {
     ghost use Rattle.std.specs.Prelude.{List};
     ghost use Rattle.authority_table.specs.Held.{IsHeld};
     ghost use Rattle.std.specs.Coded.{coded_list};
-    ghost use Rattle.authority_table.specs.declared.rule.Rule.{Rule};
-    ghost use Rattle.authority_table.specs.contracts.rule.Rule as rule_contract;
+    ghost use Rattle.rule_values.specs.declared.rule.Rule.{Rule};
+    ghost use Rattle.rule_values.specs.contracts.rule.Rule as rule_contract;
 
     ghost Value = { List Rule };
 
@@ -67,9 +59,9 @@ impl Table {
     ghost use Rattle.policy_model.specs.Changes.{selects, rows_after, touched_by};
     ghost use Rattle.policy_model.specs.Refusals.{full_rows, least_id, refused_by_rows, refused_by_count};
     ghost use Rattle.authority_table.specs.declared.fault.PlanFault.TheVariants.{OutOfMemory};
-    ghost use Rattle.authority_table.specs.Rule.{row_of};
+    ghost use Rattle.rule_values.specs.Rule.{row_of};
     ghost use Rattle.authority_table.specs.Found.{IsFound, row_found};
-    ghost use Rattle.authority_table.specs.Selector.{selector_of, content_by};
+    ghost use Rattle.rule_values.specs.Selector.{selector_of, content_by};
     ghost use Rattle.authority_table.specs.Prepared.{refusal_in, IsPlanFor, planned, IsPlan};
 
     pub fn new(alloc: Global) -> Table
@@ -236,7 +228,7 @@ impl Table {
     }
 }
 
-ghost use Rattle.authority_table.specs.Rule.{rows_of};
+ghost use Rattle.rule_values.specs.Rule.{rows_of};
 ghost use Rattle.authority_table.specs.Snapshot.{of_kind, IsSnapshot};
 
 /// Copies of the rules of a kind.

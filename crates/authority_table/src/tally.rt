@@ -6,21 +6,17 @@ ghost use Rattle.policy_model.specs.Rules.{Row};
 ghost use Rattle.policy_model.specs.Contents as model;
 ghost use Rattle.policy_model.specs.Changes.{selects};
 ghost use Rattle.policy_model.specs.Refusals.{least_id};
-ghost use Rattle.authority_table.specs.Rule.{row_of, rows_of};
-ghost use Rattle.authority_table.specs.Selector.{selector_of};
-ghost use Rattle.authority_table.specs.Spans.{AreRising};
-ghost use Rattle.authority_table.specs.Marks.{AreMarks};
+ghost use Rattle.rule_values.specs.Rule.{row_of, rows_of};
+ghost use Rattle.rule_values.specs.Selector.{selector_of};
+ghost use Rattle.held_rules.specs.Spans.{AreRising};
+ghost use Rattle.held_rules.specs.Marks.{AreMarks};
 ghost use Rattle.authority_table.specs.Tally.{IsTally};
 
 use crate::fault::PlanFault;
-use crate::held_rule::HeldRule;
-use crate::row_change::RowChange;
-use crate::rule::Rule;
-use crate::rule_id::RuleId;
-use crate::selector::Selector;
-use crate::span::span_of;
 use crate::touched::Touched;
+use held_rules::{HeldRule, span_of};
 use policy_model::limits::MOST_DISABLES;
+use rule_values::{RowChange, Rule, RuleId, Selector};
 
 /// The rules that a selector names among those looked at so far.
 #[derive(Clone, Copy, Drop)]
@@ -120,9 +116,9 @@ fn tallied_each(rules: &[HeldRule], selector: &Selector) -> Tally
 ghost use Rattle.std.specs.Option.{option_or};
 ghost use Rattle.policy_model.specs.Contents.{disable};
 ghost use Rattle.policy_model.specs.Refusals.{refused_by_rows, refused_by_count};
-ghost use Rattle.authority_table.specs.Selector.{content_by};
+ghost use Rattle.rule_values.specs.Selector.{content_by};
 ghost use Rattle.authority_table.specs.Prepared.{refused_in};
-ghost use Rattle.authority_table.specs.declared.selector.Selector as code;
+ghost use Rattle.rule_values.specs.declared.selector.Selector as code;
 ghost use Rattle.authority_table.specs.declared.fault.PlanFault.TheVariants.{OutOfMemory};
 
 /// Why the tallied rules can't be changed so.

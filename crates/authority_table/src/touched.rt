@@ -2,13 +2,11 @@
 
 ghost use Rattle.std.specs.Prelude.{◌≡◌, List, [], ◌∷◌, ◌++◌, Bool, IsTrue, option_map};
 ghost use Rattle.policy_model.specs.Rules as model;
-ghost use Rattle.authority_table.specs.Kind.{kind_of};
-ghost use Rattle.authority_table.specs.Rank.{rank_view};
-ghost use Rattle.authority_table.specs.Rule.{row_of};
+ghost use Rattle.rule_values.specs.Kind.{kind_of};
+ghost use Rattle.rule_values.specs.Rank.{rank_view};
+ghost use Rattle.rule_values.specs.Rule.{row_of};
 
-use crate::kind::Kind;
-use crate::rank::Rank;
-use crate::rule::Rule;
+use rule_values::{Kind, Rank, Rule};
 
 /// For each kind the touched rule that is tried first.
 #[derive(Clone, Copy, Drop)]

@@ -1,8 +1,8 @@
 //! Which outcomes are kept, and until when.
 use crate::steps::{Decided, Step, takes};
-use authority_table::Kind::{Document, Execute, Install};
 use object_cache::{Objects, Offered};
 use object_model::limits::MOST_ENTRIES;
+use rule_values::Kind::{Document, Execute, Install};
 use std::alloc::Global;
 use std::test::Fail;
 

@@ -1,9 +1,9 @@
 //! A cache with the most room that there is.
-use authority_table::Kind::Execute;
-use authority_table::{Label, Moment, Outcome, Priority, Rank, RuleId};
 use object_cache::{Entry, Objects, Offered};
 use object_model::limits::MOST_ENTRIES;
 use req_tree::{Hash20, Identifier, Subject};
+use rule_values::Kind::Execute;
+use rule_values::{Label, Moment, Outcome, Priority, Rank, RuleId};
 use std::alloc::Global;
 use std::test::Fail;
 

@@ -1,7 +1,7 @@
 //! Steps on a cache, and what each is to come to.
-use authority_table::{Kind, Label, Moment, Outcome, Priority, Rank, RuleId};
 use object_cache::{Entry, Objects, Offered};
 use req_tree::{Hash20, Identifier, Subject};
+use rule_values::{Kind, Label, Moment, Outcome, Priority, Rank, RuleId};
 
 /// What was decided: by a rule, until a moment or for good; or by none.
 #[derive(Clone, Copy, Drop)]

@@ -1,7 +1,7 @@
 -- The program's command lines as those of the definitions.
 use Rattle.std.specs.Prelude.{ℕ, List, Option, option_map, map}
 use denote.Bor.{Bor}
-use Rattle.authority_table.specs.Kind.{kind_of}
+use Rattle.rule_values.specs.Kind.{kind_of}
 use Rattle.command_words.specs.Table as model
 use Rattle.command_words.specs.Table.{session, on_files, on_tables, rehearse, compile, compile_set, dump, assess, edit, status, list, import_file}
 use Rattle.command_words.specs.Lines as lines

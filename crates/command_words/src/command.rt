@@ -1,7 +1,7 @@
 //! What the words of a command line ask for.
 
-use authority_table::Kind;
 use line_text::Bytes;
+use rule_values::Kind;
 use std::alloc::AllocError;
 
 /// The words of a command line, once they are read.

@@ -17,10 +17,10 @@ use crate::finishing::finish;
 use crate::slots::{OpenSlot, is_open, take_slot};
 use crate::status::status_into;
 use assess::Ask;
-use authority_table::Moment;
 use desk_state::Desk;
 use line_text::LineText;
 use object_model::laws::a_ticket_is_enough;
+use rule_values::Moment;
 use session_model::limits::MOST_SLOTS;
 use std::alloc::AllocError;
 

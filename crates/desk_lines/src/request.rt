@@ -10,10 +10,10 @@ ghost use Rattle.assess.specs.Ask.{ask_of};
 ghost use Rattle.desk_lines.specs.Requests.{Tells};
 
 use assess::Ask;
-use authority_table::Moment;
 use line_text::{LINE_HELD, LINE_LIMIT};
 use line_words::{Cursor, LineFault, read_number};
 use rule_edits::{Edit, read_edit};
+use rule_values::Moment;
 use session_model::limits::{GREATEST_SLOT, SLOT_DIGITS};
 use std::alloc::Global;
 

@@ -9,8 +9,8 @@ use Rattle.policy_model.specs.History.{Event, Opening, ask, HasOwnIds}
 use Rattle.policy_model.specs.Laws.{OutcomeIsOne}
 use Rattle.authority_table.specs.declared.found.Found.{Found}
 use Rattle.authority_table.specs.Found.{IsFound, governing_row, latent_row}
-use Rattle.authority_table.specs.Kind.{kind_of}
-use Rattle.authority_table.specs.Outcome.{outcome_of}
+use Rattle.rule_values.specs.Kind.{kind_of}
+use Rattle.rule_values.specs.Outcome.{outcome_of}
 use Rattle.object_model.specs.Objects.{is_unexpired, is_for}
 use Rattle.object_model.specs.Tickets.{Ticket, judged}
 use Rattle.object_model.specs.Stands.{Stands, ticket_on}

@@ -7,8 +7,8 @@ use Rattle.policy_model.specs.Contents.{Edit}
 use Rattle.policy_model.specs.Tables.{Answer}
 use Rattle.policy_model.specs.Outcomes.{Ask, Outcome}
 use Rattle.policy_model.specs.History.{Opening, HasOwnIds}
-use Rattle.authority_table.specs.Kind.{kind_of}
-use Rattle.authority_table.specs.Outcome.{outcome_of}
+use Rattle.rule_values.specs.Kind.{kind_of}
+use Rattle.rule_values.specs.Outcome.{outcome_of}
 use Rattle.assess.specs.Laws.{SnapshotsJudgeAlike}
 use Rattle.object_model.specs.Tickets.{Ticket}
 use Rattle.object_model.specs.Stands as model

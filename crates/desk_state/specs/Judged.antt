@@ -4,8 +4,8 @@ use Rattle.req_tree.specs.Subject.{Subject, subject_of}
 use Rattle.policy_model.specs.Outcomes.{Ask, verdict_by}
 use Rattle.policy_model.specs.ReplyTexts.{rules}
 use Rattle.policy_model.specs.History.{Event, Opening, ask, ask_answer}
-use Rattle.authority_table.specs.Kind.{kind_of}
-use Rattle.authority_table.specs.Outcome.{outcome_of}
+use Rattle.rule_values.specs.Kind.{kind_of}
+use Rattle.rule_values.specs.Outcome.{outcome_of}
 use Rattle.object_model.specs.Objects.{Offered}
 use Rattle.object_model.specs.Kept.{objects_of}
 use Rattle.object_model.specs.Tickets.{Ticket, IsTicketOf, judged}

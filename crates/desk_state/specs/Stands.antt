@@ -3,7 +3,7 @@ use Rattle.std.specs.Prelude.{ℕ, List}
 use Rattle.std.specs.Arc.{arc_value}
 use Rattle.req_tree.specs.Facts.{Facts}
 use Rattle.code_facts.specs.Tables.{table_facts}
-use Rattle.authority_table.specs.Rule.{rows_of}
+use Rattle.rule_values.specs.Rule.{rows_of}
 use Rattle.policy_model.specs.Tables.{Tables}
 use Rattle.policy_model.specs.History.{Event, Opening}
 use Rattle.desk_state.specs.declared.desk.Desk.{Desk}

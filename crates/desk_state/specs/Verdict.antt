@@ -1,5 +1,5 @@
 -- The program's verdicts as those of the definitions.
-use Rattle.authority_table.specs.Label.{label_bytes}
+use Rattle.rule_values.specs.Label.{label_bytes}
 use Rattle.policy_model.specs.Outcomes.{Verdict}
 use Rattle.policy_model.specs.ReplyTexts.{Origin, rules, cache, unsigned}
 use Rattle.desk_state.specs.declared.verdict.Verdict as code

@@ -2,13 +2,13 @@
 
 ghost use Rattle.std.specs.Prelude.{◌≡◌, Some, None, false, codes};
 ghost use Rattle.policy_model.specs.Outcomes as policy;
-ghost use Rattle.authority_table.specs.Label.{label_bytes};
-ghost use Rattle.authority_table.specs.Outcome.{outcome_of};
+ghost use Rattle.rule_values.specs.Label.{label_bytes};
+ghost use Rattle.rule_values.specs.Outcome.{outcome_of};
 ghost use Rattle.desk_state.specs.Verdict.{verdict_of};
 ghost use Rattle.desk_state.specs.declared.verdict.Origin.TheVariants.{Unsigned};
 
 use crate::verdict::{Origin, Verdict};
-use authority_table::{Label, Moment, Outcome, RuleId};
+use rule_values::{Label, Moment, Outcome, RuleId};
 
 /// The verdict of an outcome; a denial is overridden where assessments are switched off.
 pub(crate) fn answered(enabled: bool, at: Moment, outcome: &Outcome, origin: Origin) -> Verdict

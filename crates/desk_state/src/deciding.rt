@@ -4,12 +4,13 @@ ghost use Rattle.std.specs.Prelude.{◌≡◌, Some, None, Option, List, ℕ};
 ghost use Rattle.policy_model.specs.Rules.{Row};
 ghost use Rattle.policy_model.specs.Rules as model;
 ghost use Rattle.policy_model.specs.Outcomes as policy;
-ghost use Rattle.authority_table.specs.Rule.{row_of};
+ghost use Rattle.rule_values.specs.Rule.{row_of};
 ghost use Rattle.authority_table.specs.Found.{row_found, governing_row, latent_row};
-ghost use Rattle.authority_table.specs.Outcome.{outcome_of};
+ghost use Rattle.rule_values.specs.Outcome.{outcome_of};
 
-use authority_table::{Found, Label, Moment, Outcome, Rule};
+use authority_table::Found;
 use policy_model::limits::DEFAULT_SECONDS;
+use rule_values::{Label, Moment, Outcome, Rule};
 
 /// The outcome at this moment of what was found.
 pub(crate) fn decided_by(found: Found<'_>, at: Moment) -> Outcome

@@ -3,7 +3,7 @@
 ghost use Rattle.std.specs.Prelude.{◌≡◌, ◌++◌, [], ◌∷◌, List, max, length};
 ghost use Rattle.std.specs.Arc.{arc_value};
 ghost use Rattle.code_facts.specs.Tables.{table_facts};
-ghost use Rattle.authority_table.specs.Rule.{rows_of};
+ghost use Rattle.rule_values.specs.Rule.{rows_of};
 ghost use Rattle.policy_model.specs.History.{HasOwnIds};
 ghost use Rattle.edit_receipts.specs.Receipts.{receipts_of};
 ghost use Rattle.object_model.specs.declared.limits.TheConstants.{MOST_ENTRIES};
@@ -22,7 +22,7 @@ mod loading;
 mod planning;
 
 use crate::status::DeskStatus;
-use authority_table::{Moment, Table};
+use authority_table::Table;
 use code_facts::FactTable;
 use edit_receipts::Receipts;
 use object_cache::Objects;
@@ -30,6 +30,7 @@ use object_model::laws::{
     a_desk_goes_on_standing, a_desk_is_fresh, what_was_judged_is_of_the_desk,
 };
 use policy_model::laws::history_goes_on;
+use rule_values::Moment;
 use std::sync::Arc;
 
 /// Decides which code may be executed, installed or opened, by its rules.

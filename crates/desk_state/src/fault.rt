@@ -5,9 +5,10 @@ ghost use Rattle.line_text.specs.LineText.{line_bytes};
 ghost use Rattle.line_text.specs.declared.limits.TheConstants.{FRONT_LIMIT};
 
 use crate::answer::numbers_into;
-use authority_table::{PlanFault, RuleId};
+use authority_table::PlanFault;
 use policy_keeper::KeepFault;
 use req_tree::LineText;
+use rule_values::RuleId;
 use std::alloc::AllocError;
 
 /// Why an edit was not made; the desk is as before, and so is what the keeper tells. The first of these, in the order

@@ -1,8 +1,8 @@
 //! An assessment that is judged as it begins, by the rules where they lie.
 
 use crate::verdict::Verdict;
-use authority_table::{Kind, Moment, Outcome};
 use req_tree::Subject;
+use rule_values::{Kind, Moment, Outcome};
 
 /// An assessment that is answered at once, or one that is judged and may be finished later.
 #[derive(Drop)]

@@ -1,15 +1,16 @@
 //! What an edit drops of the outcomes that are kept.
 
 ghost use Rattle.std.specs.Prelude.{◌≡◌, ◌<◌, Some, option_map};
-ghost use Rattle.authority_table.specs.Kind.{kind_of};
-ghost use Rattle.authority_table.specs.Rank.{rank_view};
+ghost use Rattle.rule_values.specs.Kind.{kind_of};
+ghost use Rattle.rule_values.specs.Rank.{rank_view};
 ghost use Rattle.policy_model.specs.declared.limits.TheConstants.{MOST_RECEIPTS};
 ghost use Rattle.object_model.specs.Past.{count_of};
 ghost use Rattle.object_cache.specs.Objects.{counts, room_of};
 ghost use Rattle.desk_state.specs.Cache.{AreAtMost, cache_in, purged_at, purged_as};
 
-use authority_table::{Kind, Prepared, Rank};
+use authority_table::Prepared;
 use object_cache::Objects;
+use rule_values::{Kind, Rank};
 
 /// Counts a planned change of the rules in each kind that it touches, and drops what it may change.
 pub(crate) fn purge(objects: &mut Objects, rows: &Option<Prepared>)

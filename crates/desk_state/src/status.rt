@@ -1,6 +1,6 @@
 //! What a desk says of itself.
 
-use authority_table::Moment;
+use rule_values::Moment;
 
 /// The state of a desk in numbers.
 #[derive(Clone, Copy, Drop)]

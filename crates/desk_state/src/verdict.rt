@@ -7,9 +7,9 @@ ghost use Rattle.policy_model.specs.ReplyTexts.{Fate, verdict_text, number_text,
 ghost use Rattle.object_model.specs.Origins.{fate_of};
 ghost use Rattle.object_cache.specs.Offered.{offered_of};
 
-use authority_table::{Label, Moment, RuleId};
 use object_cache::Offered;
 use req_tree::LineText;
+use rule_values::{Label, Moment, RuleId};
 
 /// What is answered to an assessment.
 #[derive(Drop)]

@@ -2,9 +2,9 @@
 use crate::edits::{answers, assesses};
 use crate::kept_desk::{KeptDesk, fresh_desk};
 use crate::made::{ask, ask_of, by_id, by_label, rule_of, subject};
-use authority_table::{Kind, Moment, Outcome, Selector};
 use desk_state::{Begun, Content, DeskStatus, Edit, EditKey};
 use rule_edits::{content_is, content_text};
+use rule_values::{Kind, Moment, Outcome, Selector};
 use std::alloc::Global;
 use std::test::Fail;
 

@@ -7,10 +7,10 @@ ghost use Rattle.desk_state.specs.Judged.{IsJudgedOfDesk};
 
 use crate::kept_desk::{KeptDesk, fresh_desk};
 use crate::made::{ask, edit, new_rule, subject};
-use authority_table::Moment;
 use desk_state::{Answer, Ask, Begun, Content, Edit, EditFault, Judged, Looked};
 use req_tree::LineText;
 use rule_edits::{content_is, content_text};
+use rule_values::Moment;
 use std::alloc::Global;
 use std::test::Fail;
 

@@ -5,12 +5,12 @@ ghost use Rattle.policy_keeper.specs.Mirror.{Mirrors};
 ghost use Rattle.memory_keeper.specs.Memory.{kept};
 ghost use Rattle.desk_state.specs.Stands.{tables};
 
-use authority_table::Moment;
 use code_facts::FactTable;
 use desk_state::{
     Answer, Ask, Begun, Desk, DeskStatus, Edit, EditFault, Finished, Judged, Looked, Ticket,
 };
 use memory_keeper::MemoryKeeper;
+use rule_values::Moment;
 use std::alloc::{AllocError, Global};
 use std::sync::Arc;
 

@@ -2,9 +2,9 @@
 use crate::edits::answers;
 use crate::kept_desk::{KeptDesk, fresh_desk};
 use crate::made::{by_id, rule_of};
-use authority_table::Kind;
 use desk_state::{Content, Edit, EditKey};
 use req_tree::LineText;
+use rule_values::Kind;
 use std::alloc::Global;
 use std::test::Fail;
 

@@ -1,8 +1,8 @@
 //! Rules, edits and asks that the tests hand in.
-use authority_table::{Kind, Label, Moment, Priority, RuleId, Selector, Which};
 use desk_state::{Ask, Content, Edit, EditKey, NewRule};
 use req_parser::parse;
 use req_tree::{Bytes, Hash20, Identifier, SharedReq, Subject};
+use rule_values::{Kind, Label, Moment, Priority, RuleId, Selector, Which};
 use std::alloc::Global;
 
 /// A rule for what is executed that always means true.

@@ -1,6 +1,7 @@
 //! Rules that are copied, kept and found.
 use crate::made::{new_rule, subject};
-use authority_table::{Found, Kind, Moment, Rule, RuleId, Table};
+use authority_table::{Found, Table};
+use rule_values::{Kind, Moment, Rule, RuleId};
 use std::alloc::Global;
 use std::test::Fail;
 

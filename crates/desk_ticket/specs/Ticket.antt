@@ -2,8 +2,8 @@
 use Rattle.std.specs.Arc.{arc_value}
 use Rattle.req_tree.specs.Subject.{subject_of}
 use Rattle.code_facts.specs.Tables.{table_facts}
-use Rattle.authority_table.specs.Kind.{kind_of}
-use Rattle.authority_table.specs.Rule.{rows_of}
+use Rattle.rule_values.specs.Kind.{kind_of}
+use Rattle.rule_values.specs.Rule.{rows_of}
 use Rattle.object_model.specs.Tickets.{Ticket}
 use Rattle.desk_ticket.specs.declared.ticket.Ticket as code
 

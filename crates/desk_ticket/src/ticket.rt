@@ -1,17 +1,18 @@
 //! What an assessment holds from its beginning on, so that its outcome needs no desk and waits for nobody.
 
 ghost use Rattle.std.specs.Arc.{arc_value};
-ghost use Rattle.authority_table.specs.Kind.{kind_of};
-ghost use Rattle.authority_table.specs.Rule.{rows_of};
+ghost use Rattle.rule_values.specs.Kind.{kind_of};
+ghost use Rattle.rule_values.specs.Rule.{rows_of};
 ghost use Rattle.authority_table.specs.Snapshot.{IsByRank};
 ghost use Rattle.assess.specs.Tests.{AllOfKind};
 ghost use Rattle.desk_ticket.specs.Once.{of_kind_once, ranked_once};
 
 use assess::judge;
-use authority_table::{Kind, Moment, Outcome, Rules};
+use authority_table::Rules;
 use code_facts::FactTable;
 use object_cache::Entry;
 use req_tree::Subject;
+use rule_values::{Kind, Moment, Outcome};
 use std::sync::Arc;
 
 /// The rules, the facts, the switch and the moment of a desk, as an assessment of some code began.
@@ -38,7 +39,7 @@ impl Ticket {
     ghost use Rattle.std.specs.Prelude.{◌≡◌};
     ghost use Rattle.req_tree.specs.Subject.{subject_of};
     ghost use Rattle.code_facts.specs.Tables.{table_facts};
-    ghost use Rattle.authority_table.specs.Outcome.{outcome_of};
+    ghost use Rattle.rule_values.specs.Outcome.{outcome_of};
     ghost use Rattle.object_model.specs.Tickets.{judged};
     ghost use Rattle.object_cache.specs.Entry.{entry_of};
     ghost use Rattle.desk_ticket.specs.Ticket.{ticket_of};

@@ -1,12 +1,12 @@
 //! What the program's edits hold fits a line. Each call only reads, and gives nothing.
 
 ghost use Rattle.line_laws.specs.Limits.{AreBytes, IsLabel, IsExpiry, IsPriority, IsName, IsRule};
-ghost use Rattle.authority_table.specs.Label.{label_bytes};
-ghost use Rattle.authority_table.specs.Selector.{which_of};
+ghost use Rattle.rule_values.specs.Label.{label_bytes};
+ghost use Rattle.rule_values.specs.Selector.{which_of};
 ghost use Rattle.rule_edits.specs.Edit.{new_row};
 
-use authority_table::{Label, Moment, Priority, Selector, Which};
 use rule_edits::NewRule;
+use rule_values::{Label, Moment, Priority, Selector, Which};
 
 fn bytes_fit(bytes: &[u8])
     ensures { AreBytes bytes.now }

@@ -5,7 +5,7 @@ ghost use Rattle.policy_model.specs.History.{Event, Opening};
 ghost use Rattle.desk_state.specs.Stands.{Stands};
 ghost use Rattle.gk_io.specs.Faults.{Rose};
 ghost use Rattle.gk_io.specs.Shelf.{KeepsFiles};
-ghost use Rattle.authority_table.specs.Kind.{kind_of};
+ghost use Rattle.rule_values.specs.Kind.{kind_of};
 ghost use Rattle.assess_command.specs.Files.{code_of};
 ghost use Rattle.run_status.specs.Files.{SaysOnFile};
 ghost use Rattle.run_status.specs.Said.{IsSpoken};
@@ -15,10 +15,10 @@ ghost use Rattle.file_assessment.specs.Assessing as spec;
 
 use crate::limits::{MOST_CODE_BYTES, MOST_SIGNATURE_BYTES};
 use assess_command::{Assessed, assess_files};
-use authority_table::Kind;
 use desk_state::Desk;
 use gk_io::{Clock, Shelf};
 use line_text::{Bytes, LineText};
+use rule_values::Kind;
 use run_status::{Asked, Said, Status, Stop, fetch_file};
 use std::alloc::{AllocError, Global};
 

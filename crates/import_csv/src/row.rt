@@ -6,8 +6,8 @@ ghost use Rattle.std.specs.List.{list_all};
 ghost use Rattle.csv.specs.Records.{fields_of, field_at};
 ghost use Rattle.policy_model.specs.Contents.{IsRuleText};
 ghost use Rattle.line_model.specs.Words.{kind_word, allow_word, priority_word, expiry_word, flags_word, key_word};
-ghost use Rattle.authority_table.specs.Kind.{kind_of};
-ghost use Rattle.authority_table.specs.Label.{label_bytes};
+ghost use Rattle.rule_values.specs.Kind.{kind_of};
+ghost use Rattle.rule_values.specs.Label.{label_bytes};
 ghost use Rattle.line_words.specs.Flags.{flags_of};
 ghost use Rattle.rule_edits.specs.EditKey.{key_bytes};
 ghost use Rattle.rule_edits.specs.NewFront.{added_front, terms_of};
@@ -17,11 +17,11 @@ ghost use Rattle.import_csv.specs.RowCode.{asked_of, refused_by, Gives, Answers}
 
 use crate::fault::ImportFault;
 use crate::limits::COLUMNS;
-use authority_table::{Kind, Label, Moment, Priority};
 use csv::ByteRecord;
 use line_words::{Flags, read_allow, read_expiry, read_flags, read_kind, read_priority};
 use policy_model::limits::MOST_TEXT_BYTES;
 use rule_edits::{Content, Edit, EditKey, Front, LineFault, Terms, read_requirement};
+use rule_values::{Kind, Label, Moment, Priority};
 use std::alloc::Global;
 
 /// What a row asks for, before its requirement is read.

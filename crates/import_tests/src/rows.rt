@@ -1,9 +1,10 @@
 //! Files that are read: the edits of their rows, and the list of the rules that they make.
 
-use authority_table::{RuleId, Table};
+use authority_table::Table;
 use import_csv::{Edits, read_rules};
 use rule_edits::{Content, Edit, content_text};
 use rule_list::list_text;
+use rule_values::RuleId;
 use std::alloc::{AllocError, Global};
 use std::test::Fail;
 

@@ -13,8 +13,8 @@ use crate::reading::{
     read_platform, read_priority,
 };
 use crate::split::split_word;
-use authority_table::{Kind, Label, Moment, Priority};
 use req_tree::{Hash20, Identifier, Subject, read_hash};
+use rule_values::{Kind, Label, Moment, Priority};
 
 /// What is left of a line. After its last word nothing is left, which isn't one empty word.
 #[derive(Drop)]
@@ -33,8 +33,8 @@ impl<'a> Cursor<'a> {
     ghost use Rattle.line_model.specs.Requirements.{rest_at};
     ghost use Rattle.line_model.specs.Subjects.{signed_at, subject_at};
     ghost use Rattle.req_tree.specs.Subject.{identifier_bytes, subject_of};
-    ghost use Rattle.authority_table.specs.Label.{label_bytes};
-    ghost use Rattle.authority_table.specs.Kind.{kind_of};
+    ghost use Rattle.rule_values.specs.Label.{label_bytes};
+    ghost use Rattle.rule_values.specs.Kind.{kind_of};
     ghost use Rattle.line_words.specs.Flags.{flags_of};
     ghost use Rattle.line_words.specs.Left.{left, Takes, Gives};
 

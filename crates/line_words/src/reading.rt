@@ -6,21 +6,21 @@ ghost use Rattle.std.specs.List.{list_all};
 ghost use Rattle.policy_model.specs.declared.limits.TheConstants.{UNIT};
 ghost use Rattle.line_model.specs.declared.limits.TheConstants.{GREATEST_UNITS};
 ghost use Rattle.line_model.specs.Words.{moment_word, expiry_word, kind_word, any_kind_word, rule_word, switch_word, allow_word, priority_word, amount_word, units_word, fraction_word, label_word, name_word, flags_word, identifier_word, platform_word};
-ghost use Rattle.authority_table.specs.Label.{label_bytes};
+ghost use Rattle.rule_values.specs.Label.{label_bytes};
 ghost use Rattle.line_words.specs.Flags.{flags_of};
 ghost use Rattle.req_tree.specs.Subject.{identifier_bytes};
-ghost use Rattle.authority_table.specs.Kind.{kind_of};
+ghost use Rattle.rule_values.specs.Kind.{kind_of};
 
 use crate::flags::Flags;
 use crate::number::read_number;
 use crate::word_text::read_bytes;
-use authority_table::{Kind, Label, Moment, Priority, RuleId};
 use line_model::limits::{
     FRACTION_DIGITS, GREATEST_PLATFORM, GREATEST_UNITS, MOMENT_DIGITS, PLATFORM_DIGITS,
     PRIORITY_DIGITS, RULE_DIGITS,
 };
 use policy_model::limits::{GREATEST_MOMENT, MOST_LABEL_BYTES, MOST_RECEIPTS, UNIT};
 use req_tree::{Identifier, MOST_IDENTIFIER_BYTES};
+use rule_values::{Kind, Label, Moment, Priority, RuleId};
 
 pub fn read_moment(word: &[u8]) -> Option<Moment>
     ensures { result ≡ moment_word word.now }

@@ -6,15 +6,15 @@ ghost use Rattle.std.specs.Option.{option_map};
 use crate::cursor::Cursor;
 use crate::fault::LineFault;
 use crate::reading::{read_any_kind, read_name, read_rule, read_switch};
-use authority_table::{Kind, Label, RuleId, Selector, Which};
+use rule_values::{Kind, Label, RuleId, Selector, Which};
 
 impl<'a> Cursor<'a> {
     ghost use Rattle.line_model.specs.Forms.{any_kind_at, name_at, rule_at, switch_at};
     ghost use Rattle.line_model.specs.Selectors.{which_at, selector_at};
-    ghost use Rattle.authority_table.specs.Kind.{kind_of};
-    ghost use Rattle.authority_table.specs.Label.{label_bytes};
-    ghost use Rattle.authority_table.specs.Naming.{named_bytes};
-    ghost use Rattle.authority_table.specs.Selector.{which_of, selector_of};
+    ghost use Rattle.rule_values.specs.Kind.{kind_of};
+    ghost use Rattle.rule_values.specs.Label.{label_bytes};
+    ghost use Rattle.rule_values.specs.Naming.{named_bytes};
+    ghost use Rattle.rule_values.specs.Selector.{which_of, selector_of};
     ghost use Rattle.line_words.specs.Left.{left, Takes};
 
     /// The next words as a selector: an id or a label, and a kind or `any`.

@@ -9,10 +9,10 @@ use Rattle.std.proofs.lemmas.List.Edits.{map_over_more}
 use Rattle.std.proofs.lemmas.List.Elements.{All-get_or}
 use Rattle.store_model.specs.Raw.{RawRule}
 use Rattle.store_model.specs.Change.{raw_change, raw_rules_after}
-use Rattle.authority_table.specs.declared.selector.Selector as selector
-use Rattle.authority_table.specs.declared.row_change.RowChange.{RowChange}
-use Rattle.authority_table.specs.declared.row_change.RowChange.TheVariants.{Remove, Enable, Disable, Expire}
-use Rattle.authority_table.specs.Selector.{selector_of, content_by}
+use Rattle.rule_values.specs.declared.selector.Selector as selector
+use Rattle.rule_values.specs.declared.row_change.RowChange.{RowChange}
+use Rattle.rule_values.specs.declared.row_change.RowChange.TheVariants.{Remove, Enable, Disable, Expire}
+use Rattle.rule_values.specs.Selector.{selector_of, content_by}
 use Rattle.raw_tables.specs.declared.rule.RawRule as code
 use Rattle.raw_tables.specs.Raw.{plain_rule, plain_rules}
 use Rattle.memory_keeper.specs.Changes.{raw_changed_by, CanBeDisabled}

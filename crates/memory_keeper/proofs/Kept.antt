@@ -5,10 +5,10 @@ use Rattle.std.proofs.lemmas.Result.{on_ok_weaker}
 use Rattle.policy_model.specs.Contents.{Content}
 use Rattle.store_model.specs.Raw.{RawReceipt, RawRule, RawTables}
 use Rattle.store_model.specs.Change.{Change, raw_receipt_of, raw_switch_after, raw_rules_after, raw_after}
-use Rattle.authority_table.specs.declared.selector.Selector.{Selector}
-use Rattle.authority_table.specs.declared.row_change.RowChange.{RowChange}
-use Rattle.authority_table.specs.declared.row_change.RowChange.TheVariants.{Remove, Enable, Disable, Expire}
-use Rattle.authority_table.specs.Selector.{content_by}
+use Rattle.rule_values.specs.declared.selector.Selector.{Selector}
+use Rattle.rule_values.specs.declared.row_change.RowChange.{RowChange}
+use Rattle.rule_values.specs.declared.row_change.RowChange.TheVariants.{Remove, Enable, Disable, Expire}
+use Rattle.rule_values.specs.Selector.{content_by}
 
 switch_stays : (s : Selector) (r : RowChange) (old : ℤ) → raw_switch_after (content_by s r) old ≡ old
 switch_stays s Remove old = refl

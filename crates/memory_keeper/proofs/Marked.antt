@@ -8,10 +8,10 @@ use Rattle.std.proofs.lemmas.List.{length-map, length-drop, length-take-le, get_
 use Rattle.policy_model.specs.Contents.{by_label, Selector}
 use Rattle.store_model.specs.Raw.{RawRule}
 use Rattle.store_model.specs.Change.{raw_named_by, raw_in_kind, raw_selects, raw_change, raw_rules_after}
-use Rattle.authority_table.specs.declared.selector.Selector as selector
-use Rattle.authority_table.specs.declared.row_change.RowChange.{RowChange}
-use Rattle.authority_table.specs.declared.row_change.RowChange.TheVariants.{Remove, Enable, Disable, Expire}
-use Rattle.authority_table.specs.Selector.{selector_of, content_by}
+use Rattle.rule_values.specs.declared.selector.Selector as selector
+use Rattle.rule_values.specs.declared.row_change.RowChange.{RowChange}
+use Rattle.rule_values.specs.declared.row_change.RowChange.TheVariants.{Remove, Enable, Disable, Expire}
+use Rattle.rule_values.specs.Selector.{selector_of, content_by}
 use Rattle.list_marks.specs.declared.span.Span.{Span}
 use Rattle.list_marks.specs.Marks.{mark_of}
 use Rattle.list_marks.specs.Spans.{IsMarkSpan}

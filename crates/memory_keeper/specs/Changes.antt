@@ -2,8 +2,8 @@
 use Rattle.std.specs.Prelude.{pos, ◌+ℤ◌, ◌≤ℤ◌, option_map}
 use Rattle.policy_model.specs.declared.limits.TheConstants.{MOST_DISABLES}
 use Rattle.store_model.specs.Raw.{RawRule}
-use Rattle.authority_table.specs.declared.row_change.RowChange.{RowChange}
-use Rattle.authority_table.specs.declared.row_change.RowChange.TheVariants.{Remove, Enable, Disable, Expire}
+use Rattle.rule_values.specs.declared.row_change.RowChange.{RowChange}
+use Rattle.rule_values.specs.declared.row_change.RowChange.TheVariants.{Remove, Enable, Disable, Expire}
 
 -- the rule after the change; one that is to be removed stays as it is
 abbrev pub raw_changed_by : RowChange → RawRule → RawRule

@@ -3,8 +3,8 @@
 ghost use Rattle.std.specs.Prelude.{◌≡◌, ◌≢◌, ◌≤◌, ◌+◌, ℕ, [], length, take, not, All};
 ghost use Rattle.std.specs.List.{filter};
 ghost use Rattle.store_model.specs.Change.{raw_selects, raw_change, raw_rules_after};
-ghost use Rattle.authority_table.specs.Selector.{selector_of, content_by};
-ghost use Rattle.authority_table.specs.declared.row_change.RowChange.TheVariants.{Remove};
+ghost use Rattle.rule_values.specs.Selector.{selector_of, content_by};
+ghost use Rattle.rule_values.specs.declared.row_change.RowChange.TheVariants.{Remove};
 ghost use Rattle.raw_tables.specs.Raw.{plain_rules};
 ghost use Rattle.memory_keeper.specs.Changes.{CanBeDisabled, raw_changed_by};
 ghost use Rattle.memory_keeper.specs.Spans.{AreRising, IsSpan};
@@ -12,8 +12,8 @@ ghost use Rattle.memory_keeper.specs.Marks.{AreMarks};
 
 use crate::held_rule::HeldRule;
 use crate::span::span_of;
-use authority_table::{RowChange, Selector};
 use list_marks::Span;
+use rule_values::{RowChange, Selector};
 
 /// Changes the selected rules, or takes them out.
 pub(crate) fn change_rules(

@@ -3,8 +3,8 @@
 ghost use Rattle.std.specs.Prelude.{◌≡◌};
 
 use crate::rules::{change_rule, is_selected};
-use authority_table::{RowChange, Selector};
 use raw_tables::RawRule;
+use rule_values::{RowChange, Selector};
 use std::alloc::{AllocError, Global};
 use std::marker::Model;
 
@@ -25,7 +25,7 @@ impl Model for HeldRule {
 impl HeldRule {
     ghost use Rattle.std.specs.Prelude.{IfOk, if◌then◌else◌};
     ghost use Rattle.store_model.specs.Change.{raw_selects};
-    ghost use Rattle.authority_table.specs.Selector.{selector_of};
+    ghost use Rattle.rule_values.specs.Selector.{selector_of};
     ghost use Rattle.raw_tables.specs.Raw.{plain_rule};
     ghost use Rattle.memory_keeper.specs.Changes.{CanBeDisabled, raw_changed_by};
 

@@ -4,9 +4,9 @@ ghost use Rattle.std.specs.Prelude.{◌≡◌};
 
 use crate::changes::change_rules;
 use crate::held_rule::HeldRule;
-use authority_table::{RowChange, Selector};
 use list_marks::mark_of;
 use raw_tables::{RawRule, RawRules};
+use rule_values::{RowChange, Selector};
 use std::alloc::{AllocError, Global};
 use std::marker::Model;
 
@@ -34,7 +34,7 @@ impl Model for HeldRules {
 impl HeldRules {
     ghost use Rattle.std.specs.Prelude.{ℕ, [], ◌∷◌, ◌++◌, All, IfOk, OnOk, OnErr};
     ghost use Rattle.store_model.specs.Change.{raw_rules_after};
-    ghost use Rattle.authority_table.specs.Selector.{content_by};
+    ghost use Rattle.rule_values.specs.Selector.{content_by};
     ghost use Rattle.raw_tables.specs.Raw.{plain_rules};
     ghost use Rattle.memory_keeper.specs.Changes.{CanBeDisabled};
     ghost use Rattle.memory_keeper.specs.Spans.{AreRising};

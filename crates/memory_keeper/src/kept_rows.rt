@@ -4,7 +4,7 @@ ghost use Rattle.std.specs.Prelude.{◌≡◌, ◌∷◌, ◌++◌, [], ℕ, All
 ghost use Rattle.store_model.specs.Accepted.{Accepts};
 ghost use Rattle.store_model.specs.Change.{raw_after, raw_rules_after};
 ghost use Rattle.store_model.specs.Stored.{bool_number};
-ghost use Rattle.authority_table.specs.Selector.{content_by};
+ghost use Rattle.rule_values.specs.Selector.{content_by};
 ghost use Rattle.raw_tables.specs.Raw.{plain_receipt, plain_rule, plain_rules, plain_tables};
 ghost use Rattle.policy_keeper.specs.Change.{change_of};
 ghost use Rattle.memory_keeper.specs.Changes.{CanBeDisabled};
@@ -12,10 +12,10 @@ ghost use Rattle.memory_keeper.specs.Spans.{AreRising};
 
 use crate::held_rules::HeldRules;
 use crate::kept_rules::KeptRules;
-use authority_table::{RowChange, Selector};
 use policy_keeper::{Change, added_rule};
 use raw_tables::{RawReceipt, RawReceipts, RawRule, RawTables};
 use rule_edits::Content;
+use rule_values::{RowChange, Selector};
 use std::alloc::{AllocError, Global};
 use store_model::limits::STORE_FORMAT;
 

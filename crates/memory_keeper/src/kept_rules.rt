@@ -2,14 +2,14 @@
 
 ghost use Rattle.std.specs.Prelude.{◌≡◌, ℕ, [], ◌∷◌, ◌++◌, All, IfOk, OnOk, OnErr};
 ghost use Rattle.store_model.specs.Change.{raw_rules_after};
-ghost use Rattle.authority_table.specs.Selector.{content_by};
+ghost use Rattle.rule_values.specs.Selector.{content_by};
 ghost use Rattle.raw_tables.specs.Raw.{plain_rules};
 ghost use Rattle.memory_keeper.specs.Changes.{CanBeDisabled};
 ghost use Rattle.memory_keeper.specs.Spans.{AreRising};
 
 use crate::held_rules::HeldRules;
-use authority_table::{RowChange, Selector};
 use raw_tables::{RawRule, RawRules};
+use rule_values::{RowChange, Selector};
 use std::alloc::{AllocError, Global};
 
 /// Rules as they were given, up to the first change of some; then each in memory of its own.

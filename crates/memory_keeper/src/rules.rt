@@ -2,14 +2,14 @@
 
 ghost use Rattle.std.specs.Prelude.{◌≡◌, pos};
 ghost use Rattle.store_model.specs.Change.{raw_named_by, raw_in_kind, raw_selects};
-ghost use Rattle.authority_table.specs.Kind.{kind_of};
-ghost use Rattle.authority_table.specs.Selector.{which_of, selector_of};
+ghost use Rattle.rule_values.specs.Kind.{kind_of};
+ghost use Rattle.rule_values.specs.Selector.{which_of, selector_of};
 ghost use Rattle.raw_tables.specs.Raw.{plain_rule};
 ghost use Rattle.memory_keeper.specs.Changes.{CanBeDisabled, raw_changed_by};
 
-use authority_table::{Kind, RowChange, RuleId, Selector, Which};
 use policy_keeper::{expiry_number, kind_number};
 use raw_tables::RawRule;
+use rule_values::{Kind, RowChange, RuleId, Selector, Which};
 
 /// Changes the rule. One that is to be removed stays as it is here.
 pub(crate) fn change_rule(rule: &mut RawRule, change: &RowChange)

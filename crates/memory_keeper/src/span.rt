@@ -4,15 +4,15 @@ ghost use Rattle.std.specs.Prelude.{◌≡◌, ◌≤◌, length, pos, int_lt, t
 ghost use Rattle.std.specs.List.Sorted.{IsPartitionPoint};
 ghost use Rattle.policy_model.specs.Contents as model;
 ghost use Rattle.policy_model.specs.Contents.{by_id};
-ghost use Rattle.authority_table.specs.Selector.{selector_of};
+ghost use Rattle.rule_values.specs.Selector.{selector_of};
 ghost use Rattle.raw_tables.specs.Raw.{plain_rules};
 ghost use Rattle.memory_keeper.specs.Spans.{AreRising, IsSpan};
 ghost use Rattle.memory_keeper.specs.Marks.{AreMarks};
 
 use crate::held_rule::HeldRule;
 use crate::rules::stored_id;
-use authority_table::{RuleId, Selector, Which};
 use list_marks::{Span, mark_of, marked_span};
+use rule_values::{RuleId, Selector, Which};
 
 /// A span outside of which no rule is selected: a number is searched for by halves, a label among the marks.
 pub(crate) fn span_of(rules: &[HeldRule], marks: &[u32], selector: &Selector) -> Span

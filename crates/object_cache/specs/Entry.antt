@@ -4,8 +4,8 @@ use Rattle.std.specs.Option.{option_copied}
 use Rattle.std.specs.Borrow.{Bor}
 use Rattle.req_tree.specs.Subject.{subject_of}
 use Rattle.policy_model.specs.History.{Entry}
-use Rattle.authority_table.specs.Kind.{kind_of}
-use Rattle.authority_table.specs.Outcome.{outcome_of}
+use Rattle.rule_values.specs.Kind.{kind_of}
+use Rattle.rule_values.specs.Outcome.{outcome_of}
 use Rattle.object_cache.specs.declared.entry.Entry as code
 
 -- kind, subject and outcome

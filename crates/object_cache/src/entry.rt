@@ -4,13 +4,13 @@ ghost use Rattle.std.specs.Prelude.{◌≡◌};
 ghost use Rattle.req_tree.specs.Subject.{subject_of};
 ghost use Rattle.policy_model.specs.Rules as rules;
 ghost use Rattle.policy_model.specs.Rules.{is_below};
-ghost use Rattle.authority_table.specs.Rank.{rank_view};
-ghost use Rattle.authority_table.specs.Outcome.{outcome_of};
+ghost use Rattle.rule_values.specs.Rank.{rank_view};
+ghost use Rattle.rule_values.specs.Outcome.{outcome_of};
 ghost use Rattle.object_model.specs.Objects.{same_subject, inhibits, ends};
 ghost use Rattle.object_model.specs.Purges.{reaches};
 
-use authority_table::{Kind, Moment, Outcome, Rank};
 use req_tree::Subject;
+use rule_values::{Kind, Moment, Outcome, Rank};
 
 /// What an assessment of this kind and subject came to, before an override.
 #[derive(Drop)]
@@ -21,7 +21,7 @@ pub struct Entry {
 }
 
 impl Entry {
-    ghost use Rattle.authority_table.specs.Kind.{kind_of};
+    ghost use Rattle.rule_values.specs.Kind.{kind_of};
     ghost use Rattle.object_model.specs.Objects.{is_unexpired, is_for};
     ghost use Rattle.object_model.specs.Purges.{stays_at};
     ghost use Rattle.object_cache.specs.Entry.{entry_of};

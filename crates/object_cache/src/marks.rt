@@ -2,7 +2,7 @@
 
 ghost use Rattle.std.specs.Prelude.{◌≡◌, ◌<◌};
 
-use authority_table::Kind;
+use rule_values::Kind;
 
 /// A mark for each kind.
 #[derive(Clone, Copy, Drop)]
@@ -13,7 +13,7 @@ pub(crate) struct Marks {
 }
 
 impl Marks {
-    ghost use Rattle.authority_table.specs.Kind.{kind_of};
+    ghost use Rattle.rule_values.specs.Kind.{kind_of};
     ghost use Rattle.object_model.specs.Past.{count_of};
     ghost use Rattle.object_model.specs.Purges.{counted};
     ghost use Rattle.object_cache.specs.Marks.{marks_of, no_marks};

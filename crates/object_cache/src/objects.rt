@@ -6,8 +6,8 @@
 ghost use Rattle.std.specs.Prelude.{◌≡◌, ◌<◌, ◌≤◌, [], ◌∷◌, ◌++◌, length, true, nat_lt, nat_le, IfOk, OnOk, OnErr};
 ghost use Rattle.std.specs.List.{filter, find, list_any};
 ghost use Rattle.req_tree.specs.Subject.{subject_of};
-ghost use Rattle.authority_table.specs.Kind.{kind_of};
-ghost use Rattle.authority_table.specs.Rank.{rank_view};
+ghost use Rattle.rule_values.specs.Kind.{kind_of};
+ghost use Rattle.rule_values.specs.Rank.{rank_view};
 ghost use Rattle.object_model.specs.declared.limits.TheConstants.{MOST_ENTRIES};
 ghost use Rattle.object_model.specs.Objects.{is_unexpired, is_for};
 ghost use Rattle.object_model.specs.Purges.{stays_at};
@@ -16,8 +16,8 @@ ghost use Rattle.object_cache.specs.Entry.{entry_of, entries_of, entry_found};
 use crate::entry::Entry;
 use crate::marks::Marks;
 use crate::offered::Offered;
-use authority_table::{Kind, Moment, Rank};
 use req_tree::Subject;
+use rule_values::{Kind, Moment, Rank};
 use std::alloc::{AllocError, Global};
 
 /// Outcomes of assessments, at most one for each kind and subject that hasn't ended.

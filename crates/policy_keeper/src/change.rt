@@ -3,14 +3,14 @@
 ghost use Rattle.std.specs.Prelude.{◌≡◌, IfOk};
 ghost use Rattle.policy_model.specs.Changes as model;
 ghost use Rattle.store_model.specs.Stored as stored;
-ghost use Rattle.authority_table.specs.Kind.{kind_of};
+ghost use Rattle.rule_values.specs.Kind.{kind_of};
 ghost use Rattle.rule_edits.specs.Edit.{new_row};
 ghost use Rattle.raw_tables.specs.Raw.{plain_receipt, plain_rule};
 
-use authority_table::{Kind, Moment};
 use line_text::Bytes;
 use raw_tables::{RawReceipt, RawRule};
 use rule_edits::{Edit, NewRule, content_text};
+use rule_values::{Kind, Moment};
 use std::alloc::{AllocError, Global};
 
 /// An accepted edit, its number, and how many rules it touches.

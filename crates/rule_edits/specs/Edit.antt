@@ -1,7 +1,7 @@
 -- The program's edits as those of the definitions.
-use Rattle.authority_table.specs.Kind.{kind_of}
-use Rattle.authority_table.specs.Label.{label_bytes}
-use Rattle.authority_table.specs.Selector.{selector_of}
+use Rattle.rule_values.specs.Kind.{kind_of}
+use Rattle.rule_values.specs.Label.{label_bytes}
+use Rattle.rule_values.specs.Selector.{selector_of}
 use Rattle.policy_model.specs.Contents.{NewRow, Content, add, remove, enable, disable, expire, switch, Edit}
 use Rattle.rule_edits.specs.declared.new_rule.NewRule.{NewRule}
 use Rattle.rule_edits.specs.declared.edit.Content as code_content

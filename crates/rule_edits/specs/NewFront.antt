@@ -1,6 +1,6 @@
 -- The words in front of an added rule's requirement as plain data.
-use Rattle.authority_table.specs.Kind.{kind_of}
-use Rattle.authority_table.specs.Label.{label_bytes}
+use Rattle.rule_values.specs.Kind.{kind_of}
+use Rattle.rule_values.specs.Label.{label_bytes}
 use Rattle.line_words.specs.Flags.{flags_of}
 use Rattle.line_model.specs.Fronts as model
 use Rattle.rule_edits.specs.declared.front.Front.{Front}

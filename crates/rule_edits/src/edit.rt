@@ -2,7 +2,7 @@
 
 use crate::edit_key::EditKey;
 use crate::new_rule::NewRule;
-use authority_table::{Moment, Selector};
+use rule_values::{Moment, Selector};
 use std::alloc::{AllocError, Global};
 
 /// A change of the rules under a key, by which a repeat is known.

@@ -11,9 +11,9 @@ ghost use Rattle.rule_edits.specs.Edit.{new_row};
 ghost use Rattle.rule_edits.specs.NewFront.{added_front, terms_of};
 
 use crate::new_rule::NewRule;
-use authority_table::{Kind, Label, Moment, Priority};
 use line_words::{Cursor, Flags, LineFault};
 use req_tree::{Bytes, Req, SharedReq};
+use rule_values::{Kind, Label, Moment, Priority};
 use std::alloc::{AllocError, Global};
 
 /// When a rule is tried, until when it is in force, its name and its flags.

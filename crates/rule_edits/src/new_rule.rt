@@ -7,8 +7,8 @@ ghost use Rattle.req_grammar.specs.Readings.{IsRequirementText};
 ghost use Rattle.policy_model.specs.Contents.{IsRuleText};
 ghost use Rattle.policy_model.specs.Texts.{add_front, verdict_word, expiry_text, flags_text};
 
-use authority_table::{Kind, Label, Moment, Priority, Rule, RuleId, ShortReq};
 use req_tree::{Bytes, LineText, SharedReq};
+use rule_values::{Kind, Label, Moment, Priority, Rule, RuleId, ShortReq};
 use std::alloc::{AllocError, Global};
 
 /// All that an added rule has but its number.
@@ -29,7 +29,7 @@ pub struct NewRule {
 }
 
 impl NewRule {
-    ghost use Rattle.authority_table.specs.Rule.{row_of};
+    ghost use Rattle.rule_values.specs.Rule.{row_of};
     ghost use Rattle.policy_model.specs.Changes as model;
     ghost use Rattle.rule_edits.specs.Edit.{new_row};
 

@@ -1,6 +1,6 @@
 //! What the words behind an edit's key ask for.
 
-ghost use Rattle.authority_table.specs.Selector.{selector_of};
+ghost use Rattle.rule_values.specs.Selector.{selector_of};
 ghost use Rattle.line_model.specs.Contents.{operands_at, add_at, selected_at, remove_verb, enable_verb, disable_verb, expire_verb, switch_verb};
 ghost use Rattle.line_words.specs.Left.{left, Gives};
 ghost use Rattle.rule_edits.specs.Reads.{ReadsContent};
@@ -10,8 +10,8 @@ use crate::edit::Content;
 use crate::front::read_front;
 use crate::requirement::{read_requirement, read_text};
 use crate::verb::Verb;
-use authority_table::Selector;
 use line_words::{Cursor, LineFault};
+use rule_values::Selector;
 use std::alloc::Global;
 
 /// The content of a verb and the words behind it.

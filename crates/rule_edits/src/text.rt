@@ -5,14 +5,14 @@ ghost use Rattle.line_text.specs.LineText.{line_bytes};
 ghost use Rattle.line_text.specs.declared.limits.TheConstants.{FRONT_LIMIT, LINE_ROOM};
 ghost use Rattle.policy_model.specs.Texts.{selector_text, which_text, any_kind_text};
 ghost use Rattle.policy_model.specs.Texts as words;
-ghost use Rattle.authority_table.specs.Selector.{which_of, selector_of};
+ghost use Rattle.rule_values.specs.Selector.{which_of, selector_of};
 ghost use Rattle.rule_edits.specs.Edit.{content_of};
 ghost use Rattle.rule_edits.specs.Fronts.{front_of, rest_of};
 
 use crate::edit::Content;
 use crate::new_rule::expiry_into;
-use authority_table::{Kind, Selector, Which};
 use req_tree::{Bytes, LineText};
+use rule_values::{Kind, Selector, Which};
 use std::alloc::{AllocError, Global};
 
 /// The canonical text of a content.
@@ -96,7 +96,7 @@ fn which_into(which: &Which, out: &mut LineText)
 }
 
 ghost use Rattle.std.specs.Prelude.{option_map};
-ghost use Rattle.authority_table.specs.Kind.{kind_of};
+ghost use Rattle.rule_values.specs.Kind.{kind_of};
 ghost use Rattle.policy_model.specs.Contents.{switch};
 
 fn kind_word(kind: Option<Kind>) -> &'static [u8]

@@ -2,14 +2,15 @@
 
 ghost use Rattle.std.specs.Prelude.{◌≡◌, ◌++◌, List, IfOk, OnOk};
 ghost use Rattle.policy_model.specs.Rules.{Row};
-ghost use Rattle.authority_table.specs.Kind.{kind_of};
-ghost use Rattle.authority_table.specs.Rule.{rows_of};
+ghost use Rattle.rule_values.specs.Kind.{kind_of};
+ghost use Rattle.rule_values.specs.Rule.{rows_of};
 ghost use Rattle.authority_table.specs.Snapshot.{IsSnapshot};
 ghost use Rattle.rule_list.specs.ListText.{rule_lines, IsListText};
 
 use crate::row_text::rule_onto;
-use authority_table::{Kind, Rule, Table};
+use authority_table::Table;
 use line_text::Bytes;
+use rule_values::{Kind, Rule};
 use std::alloc::{AllocError, Global};
 
 /// A line a rule, by kind in the order execute, install, open, and within a kind the rule that is tried first in

@@ -4,12 +4,12 @@ ghost use Rattle.std.specs.Prelude.{◌≡◌, ◌+◌, ◌≤◌, ◌++◌, [],
 ghost use Rattle.line_text.specs.LineText.{line_bytes};
 ghost use Rattle.line_text.specs.declared.limits.TheConstants.{LINE_ROOM};
 ghost use Rattle.policy_model.specs.Texts.{verdict_word, expiry_text, flags_text};
-ghost use Rattle.authority_table.specs.Rule.{row_of};
+ghost use Rattle.rule_values.specs.Rule.{row_of};
 ghost use Rattle.rule_list.specs.ListText.{rule_head, rule_terms, rule_front, rule_line};
 
 use crate::word::word_onto;
-use authority_table::{Moment, Rule};
 use line_text::LineText;
+use rule_values::{Moment, Rule};
 use std::alloc::AllocError;
 
 /// Appends a rule's line with its LF.

@@ -3,7 +3,7 @@
 ghost use Rattle.std.specs.Prelude.{◌≡◌, ◌≢◌, ◌≤◌, [], Err, IfOk, is_some};
 ghost use Rattle.gk_io.specs.Faults.{Rose};
 ghost use Rattle.gk_io.specs.Shelf.{KeepsFiles};
-ghost use Rattle.authority_table.specs.Kind.{kind_of};
+ghost use Rattle.rule_values.specs.Kind.{kind_of};
 ghost use Rattle.policy_model.specs.History.{Opening};
 ghost use Rattle.desk_state.specs.Stands.{Stands};
 ghost use Rattle.run_status.specs.Said.{IsSpoken};
@@ -13,7 +13,6 @@ ghost use Rattle.run_commands.specs.declared.halt.Halt.TheVariants as halt;
 ghost use Rattle.run_commands.specs.Says.{DeskSays, FilesSay, told_through};
 
 use crate::halt::{Halt, unopened};
-use authority_table::Kind;
 use command_words::FileCommand;
 use desk_opening::laws::a_run_begins_or_not;
 use desk_opening::open_desk;
@@ -22,6 +21,7 @@ use file_assessment::assess;
 use gk_io::{Clock, Shelf};
 use language_commands::{compile, compile_set, dump_file};
 use policy_keeper::Keeper;
+use rule_values::Kind;
 use run_status::{Said, Stop};
 use std::alloc::Global;
 

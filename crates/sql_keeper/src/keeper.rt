@@ -6,10 +6,10 @@ ghost use Rattle.gk_io.specs.Faults.{Rose};
 use crate::fault::SqlFault;
 use crate::reading::read_tables;
 use crate::statements::{add_receipt, add_rule, change_rules, make_meta, make_tables, switch_to};
-use authority_table::{RowChange, Selector};
 use policy_keeper::{Change, KeepFault, Keeper, added_rule};
 use raw_tables::{RawReceipt, RawRule, RawTables};
 use rule_edits::Content;
+use rule_values::{RowChange, Selector};
 use sqlite::{Alter, Connection};
 use std::alloc::Global;
 

@@ -3,9 +3,9 @@
 ghost use Rattle.std.specs.Prelude.{◌≡◌};
 
 use crate::fault::SqlFault;
-use authority_table::{Kind, Moment, RowChange, Selector, Which};
 use policy_keeper::{expiry_number, kind_number};
 use raw_tables::{RawReceipt, RawRule};
+use rule_values::{Kind, Moment, RowChange, Selector, Which};
 use sqlite::types::ValueRef;
 use sqlite::{Alter, Transaction, params};
 

@@ -7,8 +7,8 @@ use Rattle.std.proofs.lemmas.List.{map-append, length-map, get_or-map}
 use Rattle.std.proofs.lemmas.List.Elements.{All-push}
 use Rattle.policy_model.specs.Rules.{Row}
 use Rattle.req_grammar.specs.Readings.{IsRequirementText}
-use Rattle.authority_table.specs.declared.rule.Rule.{Rule}
-use Rattle.authority_table.specs.Rule.{row_of, rows_of}
+use Rattle.rule_values.specs.declared.rule.Rule.{Rule}
+use Rattle.rule_values.specs.Rule.{row_of, rows_of}
 use Rattle.store_model.specs.Raw.{RawReceipt, RawRule}
 use Rattle.store_model.specs.Accepted.{AcceptsRules}
 use Rattle.store_model.specs.Stored.{raw_rule}

@@ -3,8 +3,8 @@ use Rattle.std.specs.Prelude.{◌≡◌, ◌≤◌, ◌≤ℤ◌, ℕ, pos, List
 use Rattle.req_tree.specs.Tree.{Tree}
 use Rattle.policy_model.specs.declared.limits.TheConstants.{MOST_DISABLES, GREATEST_MOMENT, LEAST_PRIORITY, GREATEST_PRIORITY, MOST_LABEL_BYTES}
 use Rattle.policy_model.specs.Rules.{Row}
-use Rattle.authority_table.specs.Kind.{kind_of}
-use Rattle.authority_table.specs.Label.{label_bytes}
+use Rattle.rule_values.specs.Kind.{kind_of}
+use Rattle.rule_values.specs.Label.{label_bytes}
 use Rattle.store_model.specs.Raw.{RawRule}
 use Rattle.store_model.specs.Accepted.{IsWithin, AreFlags}
 use Rattle.store_model.specs.Stored.{kind_number, bool_number, flags_number}

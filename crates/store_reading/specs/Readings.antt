@@ -6,8 +6,8 @@ use Rattle.policy_model.specs.Contents.{IsRuleText}
 use Rattle.policy_model.specs.Edits.{kept}
 use Rattle.policy_model.specs.Rules.{Row}
 use Rattle.rule_edits.specs.EditKey.{key_bytes}
-use Rattle.authority_table.specs.declared.rule.Rule.{Rule}
-use Rattle.authority_table.specs.Rule.{row_of, rows_of}
+use Rattle.rule_values.specs.declared.rule.Rule.{Rule}
+use Rattle.rule_values.specs.Rule.{row_of, rows_of}
 use Rattle.edit_receipts.specs.declared.receipts.Receipt.{Receipt}
 use Rattle.edit_receipts.specs.Receipts.{receipt_of, receipts_of}
 use Rattle.store_model.specs.Raw.{RawReceipt, RawRule}

@@ -1,6 +1,6 @@
 -- What was read of a store, as tables. This project's own.
 use Rattle.policy_model.specs.Tables.{Tables}
-use Rattle.authority_table.specs.Rule.{rows_of}
+use Rattle.rule_values.specs.Rule.{rows_of}
 use Rattle.edit_receipts.specs.Receipts.{receipts_of}
 use Rattle.store_reading.specs.declared.store.StoredTables.{StoredTables}
 

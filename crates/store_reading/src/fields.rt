@@ -5,10 +5,10 @@ ghost use Rattle.store_reading.specs.Readings.{Reads};
 ghost use Rattle.store_reading.specs.Fields.{HasFields, Says};
 
 use crate::numbers::{read_bool, read_count, read_expiry, read_flags, read_kind};
-use authority_table::{Kind, Label, Moment, Priority};
 use line_words::Flags;
 use policy_model::limits::MOST_DISABLES;
 use raw_tables::RawRule;
+use rule_values::{Kind, Label, Moment, Priority};
 
 /// The fields of a rule whose number and requirement aren't read yet.
 #[derive(Drop)]

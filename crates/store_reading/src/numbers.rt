@@ -4,11 +4,11 @@ ghost use Rattle.std.specs.Prelude.{◌≡◌, pos, IfSome, option_map};
 ghost use Rattle.policy_model.specs.declared.limits.TheConstants.{GREATEST_MOMENT};
 ghost use Rattle.store_model.specs.Accepted.{IsWithin, AreFlags};
 ghost use Rattle.store_model.specs.Stored.{kind_number, bool_number, flags_number};
-ghost use Rattle.authority_table.specs.Kind.{kind_of};
+ghost use Rattle.rule_values.specs.Kind.{kind_of};
 ghost use Rattle.store_reading.specs.Readings.{Reads};
 
-use authority_table::{Kind, Moment};
 use line_words::Flags;
+use rule_values::{Kind, Moment};
 
 /// 0 for no, 1 for yes.
 pub(crate) fn read_bool(number: i64) -> Option<bool>

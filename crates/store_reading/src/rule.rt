@@ -2,7 +2,7 @@
 
 ghost use Rattle.std.specs.Prelude.{◌≡◌, pos, IfOk};
 ghost use Rattle.req_grammar.specs.Readings.{IsRequirementText};
-ghost use Rattle.authority_table.specs.Rule.{row_of};
+ghost use Rattle.rule_values.specs.Rule.{row_of};
 ghost use Rattle.policy_model.specs.declared.limits.TheConstants.{MOST_RECEIPTS};
 ghost use Rattle.raw_tables.specs.Raw.{plain_receipts, plain_rule};
 ghost use Rattle.store_model.specs.Accepted.{IsWithin, AcceptsReceipts, IsAdded, IsStoredRule};
@@ -13,10 +13,10 @@ use crate::content::adds;
 use crate::fields::{Fields, read_fields};
 use crate::numbers::read_count;
 use crate::requirement::read_tree;
-use authority_table::{Rule, RuleId, ShortReq};
 use policy_model::limits::MOST_RECEIPTS;
 use raw_tables::{RawReceipt, RawRule};
 use req_tree::{Bytes, SharedReq};
+use rule_values::{Rule, RuleId, ShortReq};
 use std::alloc::{AllocError, Global};
 
 /// The rule of a row beside these receipts.

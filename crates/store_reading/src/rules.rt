@@ -11,9 +11,10 @@ ghost use Rattle.store_reading.specs.declared.fault.StoreFault.TheVariants.{BadS
 
 use crate::fault::{StoreFault, StoreRow};
 use crate::rule::read_rule;
-use authority_table::{Rule, Table};
+use authority_table::Table;
 use policy_model::limits::MOST_RULES;
 use raw_tables::{RawReceipt, RawRule};
+use rule_values::Rule;
 use std::alloc::{AllocError, Global};
 
 /// The rules that are stored in these rows beside these receipts.

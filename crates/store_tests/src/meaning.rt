@@ -1,9 +1,10 @@
 //! What rows mean once they are read.
 use crate::rows::{RECEIPTS, RuleRow, raw_tables};
-use authority_table::{Kind, Rule, RuleId, Table};
+use authority_table::Table;
 use edit_receipts::Receipts;
 use raw_tables::RawTables;
 use rule_edits::EditKey;
+use rule_values::{Kind, Rule, RuleId};
 use std::alloc::Global;
 use std::test::Fail;
 use store_reading::{StoredTables, read_store};

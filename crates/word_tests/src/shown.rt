@@ -1,7 +1,7 @@
 //! A command line as text, for the rows of tests.
 
-use authority_table::Kind;
 use command_words::{Command, CommandLine, FileCommand, TableCommand};
+use rule_values::Kind;
 use std::alloc::AllocError;
 
 /// Appends the store, the facts or nothing, and the command, each behind a bar.

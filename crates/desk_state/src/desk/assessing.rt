@@ -5,8 +5,8 @@ ghost use Rattle.std.specs.List.{find};
 ghost use Rattle.req_tree.specs.Subject.{subject_of};
 ghost use Rattle.policy_model.specs.History.{Event, Opening};
 ghost use Rattle.policy_model.specs.History as event;
-ghost use Rattle.authority_table.specs.Kind.{kind_of};
-ghost use Rattle.authority_table.specs.Outcome.{outcome_of};
+ghost use Rattle.rule_values.specs.Kind.{kind_of};
+ghost use Rattle.rule_values.specs.Outcome.{outcome_of};
 ghost use Rattle.object_model.specs.Objects.{is_for};
 ghost use Rattle.object_model.specs.Tickets.{IsTicketOf, judged};
 ghost use Rattle.object_model.specs.OfDesk.{IsTicketOfDesk, KeepsOf};
@@ -25,12 +25,12 @@ use crate::finished::Finished;
 use crate::verdict::Origin;
 use assess::Ask;
 use assess::laws::snapshots_judge_alike;
-use authority_table::{Kind, Outcome};
 use desk_ticket::Ticket;
 use object_model::laws::{
     a_desk_goes_on_standing, a_desk_is_fresh, a_ticket_is_enough, what_was_judged_is_of_the_desk,
 };
 use req_tree::Subject;
+use rule_values::{Kind, Outcome};
 use std::alloc::{AllocError, Global};
 use std::sync::Arc;
 

@@ -8,7 +8,7 @@ ghost use Rattle.policy_model.specs.Edits as policy_edits;
 ghost use Rattle.policy_model.specs.Tables.{done};
 ghost use Rattle.policy_model.specs.History.{Event, Opening, HasOwnIds, edit_answer};
 ghost use Rattle.policy_model.specs.History as event;
-ghost use Rattle.authority_table.specs.Rule.{rows_of};
+ghost use Rattle.rule_values.specs.Rule.{rows_of};
 ghost use Rattle.rule_edits.specs.Edit.{edit_of};
 ghost use Rattle.edit_receipts.specs.Receipts.{receipt_of};
 ghost use Rattle.store_model.specs.Kept.{IsKept};

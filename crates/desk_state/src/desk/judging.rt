@@ -6,7 +6,7 @@ ghost use Rattle.req_tree.specs.Subject.{subject_of};
 ghost use Rattle.fact_values.specs.Knowledge.{known_in};
 ghost use Rattle.policy_model.specs.History.{Event, Opening};
 ghost use Rattle.policy_model.specs.History as event;
-ghost use Rattle.authority_table.specs.Kind.{kind_of};
+ghost use Rattle.rule_values.specs.Kind.{kind_of};
 ghost use Rattle.object_model.specs.Tickets.{Ticket, IsTicketOf};
 ghost use Rattle.object_model.specs.Stands.{ticket_on};
 ghost use Rattle.object_model.specs.OfDesk.{KeepsOf};
@@ -22,7 +22,6 @@ use crate::finished::Finished;
 use crate::judged::{Judged, Looked};
 use crate::verdict::Origin;
 use assess::Ask;
-use authority_table::Kind;
 use fact_values::Facts;
 use object_cache::Entry;
 use object_model::laws::{
@@ -30,6 +29,7 @@ use object_model::laws::{
 };
 use policy_model::laws::one_outcome;
 use req_tree::Subject;
+use rule_values::Kind;
 use std::alloc::AllocError;
 
 impl Desk {
@@ -133,7 +133,7 @@ impl Desk {
 }
 
 ghost use Rattle.object_cache.specs.Entry as cache;
-ghost use Rattle.authority_table.specs.Outcome.{outcome_of};
+ghost use Rattle.rule_values.specs.Outcome.{outcome_of};
 
 /// The outcome as it may be kept.
 fn entry_of(judged: Judged) -> Entry

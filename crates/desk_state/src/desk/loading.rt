@@ -13,13 +13,13 @@ ghost use Rattle.desk_state.specs.Stands.{tables, Stands};
 
 use crate::desk::Desk;
 use crate::load_fault::LoadFault;
-use authority_table::Moment;
 use code_facts::FactTable;
 use object_cache::Objects;
 use object_model::laws::a_desk_goes_on_standing;
 use object_model::limits::MOST_ENTRIES;
 use policy_keeper::Keeper;
 use raw_tables::RawTables;
+use rule_values::Moment;
 use std::alloc::Global;
 use std::sync::Arc;
 use store_model::laws::{kept_tables, refused_rows, stored_rows_mean_tables};

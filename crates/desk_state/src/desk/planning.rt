@@ -4,7 +4,7 @@ ghost use Rattle.std.specs.Prelude.{◌≡◌, ◌<◌, length, Some, IfSome, Is
 ghost use Rattle.policy_model.specs.declared.limits.TheConstants.{MOST_RECEIPTS};
 ghost use Rattle.policy_model.specs.Contents.{add};
 ghost use Rattle.policy_model.specs.Refusals.{refusal, refused_by_rows, none_selected};
-ghost use Rattle.authority_table.specs.Selector.{selector_of, content_by};
+ghost use Rattle.rule_values.specs.Selector.{selector_of, content_by};
 ghost use Rattle.rule_edits.specs.Edit.{content_of, new_row};
 ghost use Rattle.desk_state.specs.Answer.{refusal_of, refusal_in};
 ghost use Rattle.desk_state.specs.Plan.{Plans};
@@ -13,8 +13,9 @@ ghost use Rattle.desk_state.specs.Stands.{tables};
 use crate::desk::Desk;
 use crate::fault::EditFault;
 use crate::plan::Plan;
-use authority_table::{Prepared, RowChange, RuleId, Selector};
+use authority_table::Prepared;
 use rule_edits::{Content, NewRule};
+use rule_values::{RowChange, RuleId, Selector};
 use std::alloc::Global;
 
 impl Desk {

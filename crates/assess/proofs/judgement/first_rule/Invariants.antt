@@ -2,7 +2,7 @@ use Rattle.std.proofs.Common.{◌≡◌, drop}
 use Rattle.std.specs.List.{find}
 use Rattle.req_tree.specs.Subject.{subject_of}
 use Rattle.fact_values.specs.Knowledge.{known_in}
-use Rattle.authority_table.specs.Rule.{rows_of}
+use Rattle.rule_values.specs.Rule.{rows_of}
 use Rattle.assess.specs.Tests.{holds}
 use Rattle.assess.proofs.judgement.first_rule.Given as goal
 

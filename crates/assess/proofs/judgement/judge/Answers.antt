@@ -1,9 +1,9 @@
 use Rattle.req_tree.specs.Subject.{subject_of}
 use Rattle.fact_values.specs.Knowledge.{known_in}
-use Rattle.authority_table.specs.Kind.{kind_of}
-use Rattle.authority_table.specs.Rule.{row_of, rows_of}
+use Rattle.rule_values.specs.Kind.{kind_of}
+use Rattle.rule_values.specs.Rule.{row_of, rows_of}
 use Rattle.authority_table.specs.Found.{row_found}
-use Rattle.authority_table.specs.Outcome.{outcome_of}
+use Rattle.rule_values.specs.Outcome.{outcome_of}
 use Rattle.assess.proofs.Judged.{judged_governed, judged_default}
 use Rattle.assess.proofs.judgement.judge.Goals as goal
 

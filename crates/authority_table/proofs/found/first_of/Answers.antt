@@ -1,7 +1,7 @@
 use Rattle.std.proofs.Common.{rules, refl, subst, sym, IfSome}
 use Rattle.std.proofs.lemmas.Bool.{both_ways}
 use Rattle.policy_model.specs.Rules.{rank_of, Before}
-use Rattle.authority_table.specs.Rule.{row_of}
+use Rattle.rule_values.specs.Rule.{row_of}
 use Rattle.authority_table.specs.Found.{row_found}
 use Rattle.authority_table.proofs.OneFurther.{stays_found}
 use Rattle.authority_table.proofs.found.first_of.Goals as goal

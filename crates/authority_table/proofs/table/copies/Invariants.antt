@@ -1,6 +1,6 @@
 use Rattle.std.proofs.Common.{◌≡◌, ◌++◌, drop}
-use Rattle.authority_table.specs.Kind.{kind_of}
-use Rattle.authority_table.specs.Rule.{rows_of}
+use Rattle.rule_values.specs.Kind.{kind_of}
+use Rattle.rule_values.specs.Rule.{rows_of}
 use Rattle.authority_table.specs.Snapshot.{of_kind}
 use Rattle.authority_table.proofs.table.copies.Given as goal
 

@@ -1,6 +1,6 @@
 use Rattle.std.specs.Prelude.{◌≡◌, ◌==◌, drop}
 use Rattle.std.specs.List.{find}
-use Rattle.authority_table.specs.Rule.{rows_of}
+use Rattle.rule_values.specs.Rule.{rows_of}
 use Rattle.authority_table.proofs.table.rule_of.Given as goal
 
 abbrev pub invariant-loop-rule : goal.invariant-loop-rule

@@ -1,7 +1,7 @@
 use Rattle.std.proofs.Common.{ap, sym, ◌∙◌, arith, Some}
 use Rattle.std.proofs.lemmas.Bool.Decides.{nat_tests}
 use Rattle.policy_model.specs.Outcomes.{at_most}
-use Rattle.authority_table.specs.Rule.{row_of}
+use Rattle.rule_values.specs.Rule.{row_of}
 use Rattle.authority_table.proofs.Tallied.{full_last}
 use Rattle.authority_table.proofs.tally.full_with.Goals as goal
 

@@ -1,5 +1,5 @@
-use Rattle.authority_table.specs.Selector.{selector_of}
-use Rattle.authority_table.proofs.Spanned.{tally_span}
+use Rattle.rule_values.specs.Selector.{selector_of}
+use Rattle.authority_table.proofs.TallyOfSpan.{tally_span}
 use Rattle.authority_table.proofs.tally.tallied.Goals as goal
 
 pub returns : goal.returns

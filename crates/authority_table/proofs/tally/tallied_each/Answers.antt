@@ -1,8 +1,8 @@
 use Rattle.std.proofs.Common.{rules, ◌≡◌, ◌≤◌, length, take, length-take-le, [], ◌∷◌, ◌++◌, subst, arith}
-use Rattle.authority_table.specs.declared.rule.Rule.{Rule}
-use Rattle.authority_table.specs.Rule.{row_of, rows_of}
+use Rattle.rule_values.specs.declared.rule.Rule.{Rule}
+use Rattle.rule_values.specs.Rule.{row_of, rows_of}
 use Rattle.authority_table.specs.Tally.{IsTally}
-use Rattle.authority_table.specs.Selector.{selector_of}
+use Rattle.rule_values.specs.Selector.{selector_of}
 use Rattle.authority_table.proofs.TallyGoesOn.{tally_further, tally_fewer}
 use Rattle.authority_table.proofs.tally.tallied_each.Goals as goal
 

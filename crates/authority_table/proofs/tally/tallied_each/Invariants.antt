@@ -1,6 +1,6 @@
 use Rattle.std.specs.Prelude.{take}
-use Rattle.authority_table.specs.Rule.{rows_of}
-use Rattle.authority_table.specs.Selector.{selector_of}
+use Rattle.rule_values.specs.Rule.{rows_of}
+use Rattle.rule_values.specs.Selector.{selector_of}
 use Rattle.authority_table.specs.Tally.{IsTally}
 use Rattle.authority_table.proofs.tally.tallied_each.Given as goal
 

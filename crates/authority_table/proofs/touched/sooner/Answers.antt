@@ -1,7 +1,7 @@
 use Rattle.std.proofs.Common.{ap, sym, ◌∙◌, Some, option_map}
 use Rattle.std.specs.Prelude.{None, if◌then◌else◌}
 use Rattle.std.proofs.lemmas.Bool.{both_ways}
-use Rattle.authority_table.specs.Rank.{rank_view}
+use Rattle.rule_values.specs.Rank.{rank_view}
 use Rattle.authority_table.proofs.Ranked.{before_true, before_false}
 use Rattle.authority_table.proofs.FirstRanks.{joined_is}
 use Rattle.authority_table.proofs.touched.sooner.Goals as goal

@@ -2,7 +2,7 @@ use Rattle.std.proofs.Common.{◌≡◌, ◌<◌, ◌≤◌, length, ◌∙◌, 
 use Rattle.std.specs.Prelude.{◌++◌, take, drop, if◌then◌else◌}
 use Rattle.std.proofs.lemmas.List.{length-map}
 use Rattle.store_model.specs.Change.{raw_selects, raw_change}
-use Rattle.authority_table.specs.Selector.{selector_of}
+use Rattle.rule_values.specs.Selector.{selector_of}
 use Rattle.raw_tables.specs.Raw.{plain_rule, plain_rules}
 use Rattle.memory_keeper.specs.Changes.{raw_changed_by}
 use Rattle.memory_keeper.proofs.Changed.{change_more, still_counted}

@@ -1,6 +1,6 @@
 use Rattle.std.specs.Prelude.{◌≡◌, ◌++◌, take, drop}
 use Rattle.store_model.specs.Change.{raw_change}
-use Rattle.authority_table.specs.Selector.{selector_of}
+use Rattle.rule_values.specs.Selector.{selector_of}
 use Rattle.raw_tables.specs.Raw.{plain_rules}
 use Rattle.memory_keeper.specs.Changes.{raw_changed_by}
 use Rattle.memory_keeper.proofs.changes.change_each.Given as goal

@@ -2,7 +2,7 @@ use Rattle.std.proofs.Common.{◌<◌, length, ◌∙◌, sym, ap, arith}
 use Rattle.std.proofs.lemmas.List.{length-map}
 use Rattle.store_model.specs.Change.{raw_selects}
 use Rattle.raw_tables.specs.declared.rule.RawRule.{RawRule}
-use Rattle.authority_table.specs.Selector.{selector_of}
+use Rattle.rule_values.specs.Selector.{selector_of}
 use Rattle.raw_tables.specs.Raw.{plain_rule, plain_rules}
 use Rattle.memory_keeper.proofs.Removed.{removed_at, kept_at}
 use Rattle.memory_keeper.proofs.Marked.{marks_removed}

@@ -2,7 +2,7 @@ use Rattle.std.proofs.Common.{◌<◌, ◌≤◌, length, ap, sym, ◌∙◌, ar
 use Rattle.std.specs.Prelude.{not}
 use Rattle.std.proofs.lemmas.List.Filters.{FiltersInPlace-more_swap, FiltersInPlace-more_no, FiltersInPlace-all}
 use Rattle.store_model.specs.Change.{raw_selects}
-use Rattle.authority_table.specs.Selector.{selector_of}
+use Rattle.rule_values.specs.Selector.{selector_of}
 use Rattle.raw_tables.specs.Raw.{plain_rules}
 use Rattle.memory_keeper.proofs.Changed.{kept_rules}
 use Rattle.memory_keeper.proofs.Removed.{kept_before, marks_swapped, marks_cut}

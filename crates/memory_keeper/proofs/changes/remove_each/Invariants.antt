@@ -1,7 +1,7 @@
 use Rattle.std.specs.Prelude.{not}
 use Rattle.std.proofs.lemmas.List.Filters.{FiltersInPlace}
 use Rattle.store_model.specs.Change.{raw_selects}
-use Rattle.authority_table.specs.Selector.{selector_of}
+use Rattle.rule_values.specs.Selector.{selector_of}
 use Rattle.raw_tables.specs.Raw.{plain_rule, plain_rules}
 use Rattle.memory_keeper.specs.Marks.{AreMarks}
 use Rattle.memory_keeper.proofs.changes.remove_each.Given as goal

@@ -1,6 +1,6 @@
 use Rattle.std.proofs.Common.{ap, ◌∙◌}
-use Rattle.authority_table.specs.Label.{label_bytes}
-use Rattle.authority_table.specs.Selector.{which_of, selector_of}
+use Rattle.rule_values.specs.Label.{label_bytes}
+use Rattle.rule_values.specs.Selector.{which_of, selector_of}
 use Rattle.list_marks.specs.Marks.{mark_of}
 use Rattle.raw_tables.specs.Raw.{plain_rules}
 use Rattle.memory_keeper.proofs.Marked.{mark_span}

@@ -2,8 +2,8 @@ use Rattle.std.proofs.Common.{rules}
 use Rattle.std.proofs.lemmas.Fn.{filter_same}
 use Rattle.object_cache.specs.Entry.{entry_of}
 use Rattle.object_model.specs.Purges.{stays_at}
-use Rattle.authority_table.specs.Kind.{kind_of}
-use Rattle.authority_table.specs.Rank.{rank_view}
+use Rattle.rule_values.specs.Kind.{kind_of}
+use Rattle.rule_values.specs.Rank.{rank_view}
 use Rattle.object_cache.proofs.KeptEntries.{kept_by}
 use Rattle.object_cache.proofs.objects.drop_reached.Goals as goal
 

@@ -1,7 +1,7 @@
 use Rattle.std.specs.Prelude.{◌≡◌, drop}
 use Rattle.std.specs.List.{filter, find}
 use Rattle.req_tree.specs.Subject.{subject_of}
-use Rattle.authority_table.specs.Kind.{kind_of}
+use Rattle.rule_values.specs.Kind.{kind_of}
 use Rattle.object_model.specs.Objects.{is_unexpired, is_for}
 use Rattle.object_cache.specs.Entry.{entries_of}
 use Rattle.object_cache.proofs.objects.first_live.Given as goal

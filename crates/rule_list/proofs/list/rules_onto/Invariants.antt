@@ -1,5 +1,5 @@
 use Rattle.std.proofs.Common.{◌≡◌, ◌++◌, take}
-use Rattle.authority_table.specs.Rule.{rows_of}
+use Rattle.rule_values.specs.Rule.{rows_of}
 use Rattle.rule_list.specs.ListText.{rule_lines}
 use Rattle.rule_list.proofs.list.rules_onto.Given as goal
 

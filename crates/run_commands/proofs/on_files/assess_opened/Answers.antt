@@ -1,5 +1,5 @@
 use Rattle.std.proofs.Common.{[], IfOk, subst}
-use Rattle.authority_table.specs.Kind.{kind_of}
+use Rattle.rule_values.specs.Kind.{kind_of}
 use Rattle.file_assessment.specs.Assessing.{SaysAssess}
 use Rattle.command_words.specs.Views.{text_of}
 use Rattle.run_commands.specs.Says.{told_through}

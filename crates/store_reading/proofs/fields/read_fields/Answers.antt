@@ -1,7 +1,7 @@
 use Rattle.std.proofs.Common.{◌≡◌, ◌≤◌, length, refl, subst, ◌∙◌, rules, w64, SFits}
 use Rattle.std.specs.Prelude.{ℤ, pos, ◌≤ℤ◌}
 use Rattle.policy_model.specs.declared.limits.TheConstants.{MOST_DISABLES, MOST_LABEL_BYTES, LEAST_PRIORITY, GREATEST_PRIORITY}
-use Rattle.authority_table.specs.Kind.{kind_of}
+use Rattle.rule_values.specs.Kind.{kind_of}
 use Rattle.store_model.specs.Accepted.{IsWithin, AreFlags}
 use Rattle.store_model.specs.Stored.{kind_number, bool_number, flags_number}
 use Rattle.store_reading.proofs.Passed.{passed}

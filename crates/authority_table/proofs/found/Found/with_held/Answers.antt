@@ -1,6 +1,6 @@
 use Rattle.req_tree.specs.Facts.{known_of}
 use Rattle.req_tree.specs.Subject.{subject_of}
-use Rattle.authority_table.specs.Rule.{row_of}
+use Rattle.rule_values.specs.Rule.{row_of}
 use Rattle.authority_table.proofs.OneFurther.{found_beside}
 use Rattle.authority_table.proofs.found.Found.with_held.Goals as goal
 

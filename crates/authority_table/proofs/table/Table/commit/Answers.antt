@@ -1,5 +1,5 @@
 use Rattle.std.proofs.Common.{sym, subst}
-use Rattle.authority_table.specs.Spans.{AreRising}
+use Rattle.held_rules.specs.Spans.{AreRising}
 use Rattle.authority_table.proofs.Planned.{held_after}
 use Rattle.authority_table.proofs.table.Table.commit.Goals as goal
 

@@ -3,8 +3,8 @@ use Rattle.req_tree.specs.Facts as f
 use Rattle.req_tree.specs.Facts.{known_of}
 use Rattle.req_tree.specs.Subject.{subject_of}
 use Rattle.fact_values.specs.Knowledge.{known_in}
-use Rattle.authority_table.specs.Kind.{kind_of}
-use Rattle.authority_table.specs.Rule.{rows_of}
+use Rattle.rule_values.specs.Kind.{kind_of}
+use Rattle.rule_values.specs.Rule.{rows_of}
 use Rattle.authority_table.specs.Found.{IsFound}
 use Rattle.authority_table.proofs.table.Table.find.Given as goal
 

@@ -1,5 +1,5 @@
 use Rattle.std.proofs.Common.{[], ap, ◌∙◌, subst, length}
-use Rattle.authority_table.specs.Prepared.{HasRoom}
+use Rattle.held_rules.specs.Spare.{HasRoom}
 use Rattle.authority_table.proofs.Planned.{plan_of_insert}
 use Rattle.authority_table.proofs.table.Table.plan_insert.Goals as goal
 

@@ -1,8 +1,8 @@
 use Rattle.std.proofs.Common.{ap, ◌∙◌}
 use Rattle.std.specs.List.{list_any}
 use Rattle.policy_model.specs.Changes.{selects}
-use Rattle.authority_table.specs.Rule.{rows_of}
-use Rattle.authority_table.specs.Selector.{selector_of}
+use Rattle.rule_values.specs.Rule.{rows_of}
+use Rattle.rule_values.specs.Selector.{selector_of}
 use Rattle.authority_table.proofs.TallyGoesOn.{tally_selects}
 use Rattle.authority_table.proofs.table.Table.selects.Goals as goal
 

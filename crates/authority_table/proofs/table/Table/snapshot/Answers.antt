@@ -1,8 +1,8 @@
 use Rattle.std.proofs.Common.{ap, ◌∙◌, List}
 use Rattle.std.specs.Arc.{arc_value}
-use Rattle.authority_table.specs.declared.rule.Rule.{Rule}
-use Rattle.authority_table.specs.Kind.{kind_of}
-use Rattle.authority_table.specs.Rule.{rows_of}
+use Rattle.rule_values.specs.declared.rule.Rule.{Rule}
+use Rattle.rule_values.specs.Kind.{kind_of}
+use Rattle.rule_values.specs.Rule.{rows_of}
 use Rattle.authority_table.specs.Snapshot.{of_kind}
 use Rattle.authority_table.proofs.Copied.{snapshot_of}
 use Rattle.authority_table.proofs.table.Table.snapshot.Goals as goal

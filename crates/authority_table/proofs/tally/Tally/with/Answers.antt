@@ -1,6 +1,6 @@
 use Rattle.std.proofs.Common.{sym, ◌∙◌}
-use Rattle.authority_table.specs.Rule.{row_of}
-use Rattle.authority_table.specs.Selector.{selector_of}
+use Rattle.rule_values.specs.Rule.{row_of}
+use Rattle.rule_values.specs.Selector.{selector_of}
 use Rattle.authority_table.proofs.TallyGoesOn.{tally_passed}
 use Rattle.authority_table.proofs.tally.Tally.with.Goals as goal
 

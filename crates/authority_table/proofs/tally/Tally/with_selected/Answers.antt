@@ -1,5 +1,5 @@
 use Rattle.std.proofs.Common.{refl}
-use Rattle.authority_table.specs.Rule.{row_of}
+use Rattle.rule_values.specs.Rule.{row_of}
 use Rattle.authority_table.proofs.TallyGoesOn.{tally_last}
 use Rattle.authority_table.proofs.tally.Tally.with_selected.Goals as goal
 

@@ -2,7 +2,7 @@ use Rattle.std.proofs.Common.{refl, sym, ap, subst}
 use Rattle.std.specs.Prelude.{Some, option_map, IfOk}
 use Rattle.req_tree.specs.Subject.{subject_of}
 use Rattle.policy_model.specs.History.{ask}
-use Rattle.authority_table.specs.Kind.{kind_of}
+use Rattle.rule_values.specs.Kind.{kind_of}
 use Rattle.assess.specs.Ask.{ask_of}
 use Rattle.desk_state.specs.Stands.{plain}
 use Rattle.desk_state.specs.Begun.{IsBegun, IsBegunOfDesk, BeginsAfter}

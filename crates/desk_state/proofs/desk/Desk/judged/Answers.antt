@@ -1,6 +1,6 @@
 use Rattle.std.proofs.Common.{refl, sym}
 use Rattle.req_tree.specs.Subject.{subject_of}
-use Rattle.authority_table.specs.Kind.{kind_of}
+use Rattle.rule_values.specs.Kind.{kind_of}
 use Rattle.desk_state.specs.Stands.{facts_of}
 use Rattle.desk_state.proofs.Judges.{found_outcome}
 use Rattle.desk_state.proofs.desk.Desk.judged.Goals as goal

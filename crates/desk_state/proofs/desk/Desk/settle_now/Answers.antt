@@ -1,7 +1,7 @@
 use Rattle.std.proofs.Common.{refl}
 use Rattle.req_tree.specs.Subject.{subject_of}
-use Rattle.authority_table.specs.Kind.{kind_of}
-use Rattle.authority_table.specs.Outcome.{outcome_of}
+use Rattle.rule_values.specs.Kind.{kind_of}
+use Rattle.rule_values.specs.Outcome.{outcome_of}
 use Rattle.desk_state.specs.Stands.{tables, facts_of, moment_of}
 use Rattle.desk_state.proofs.StaysFresh.{offer_fresh}
 use Rattle.desk_state.proofs.desk.Desk.settle_now.Goals as goal

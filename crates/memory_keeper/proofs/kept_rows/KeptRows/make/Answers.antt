@@ -1,6 +1,6 @@
 use Rattle.std.proofs.Common.{ap}
 use Rattle.std.proofs.Math.Logic.{∥∥₁_map}
-use Rattle.authority_table.specs.declared.row_change.RowChange.TheVariants.{Remove, Enable, Disable, Expire}
+use Rattle.rule_values.specs.declared.row_change.RowChange.TheVariants.{Remove, Enable, Disable, Expire}
 use Rattle.rule_edits.specs.Edit.{content_of}
 use Rattle.raw_tables.specs.Raw.{plain_receipt}
 use Rattle.policy_keeper.specs.Change.{change_of}

@@ -1,4 +1,0 @@
-use Rattle.authority_table.proofs.priority.+places_into.Given as goal
-
-abbrev pub decreases-places_into : goal.decreases-places_into
-decreases-places_into l = l.count

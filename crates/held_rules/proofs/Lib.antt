@@ -1,0 +1,5 @@
+mod Changed
+mod Spanned
+mod Rising
+mod Removed
+mod Marked

@@ -1,0 +1,5 @@
+pub mod Rooms
+pub mod Spare
+pub mod Spans
+pub mod Marks
+pub mod FirstByte

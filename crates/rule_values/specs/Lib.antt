@@ -1,0 +1,9 @@
+pub mod Kind
+pub mod Label
+pub mod ShortReq
+pub mod Rank
+pub mod Rule
+pub mod Outcome
+pub mod Naming
+pub mod Selector
+pub mod Changes
