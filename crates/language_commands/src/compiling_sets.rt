@@ -1,8 +1,7 @@
 //! `compileset NAME`: the blob of the set of requirements whose text a file is.
 
-ghost use Rattle.std.specs.Prelude.{◌≡◌, ◌≢◌, ◌≤◌, Err, IfOk};
-ghost use Rattle.gk_io.specs.Faults.{Rose};
-ghost use Rattle.gk_io.specs.Shelf.{KeepsFiles};
+ghost use Rattle.std.specs.Prelude.{◌≡◌, ◌≢◌, Err, IfOk};
+ghost use Rattle.gk_io.specs.Devices.{PassesShelf};
 ghost use Rattle.req_grammar.specs.declared.limits.TheConstants.{MOST_TEXT_BYTES};
 ghost use Rattle.run_status.specs.Files.{SaysOnFile};
 ghost use Rattle.run_status.specs.Said.{IsSpoken};
@@ -20,10 +19,7 @@ use std::alloc::{AllocError, Global};
 pub fn compile_set<H: Shelf>(alloc: Global, name: &str, shelf: &mut H) -> Result<Said, Stop>
     ensures says { IfOk result (λ said. SaysOnFile CompilesSet (H.files shelf.old) name.now MOST_TEXT_BYTES said.status said.text) }
     ensures spoken { IfOk result (λ said. IsSpoken said.status) }
-    ensures kept { KeepsFiles (H.files shelf.old) (H.files shelf.new) }
-    ensures later { H.faults shelf.old ≤ H.faults shelf.new }
-    ensures cause { result ≡ Err Stop.ShelfFault → Rose (H.faults shelf.old) (H.faults shelf.new) }
-    ensures steady { result ≢ Err Stop.ShelfFault → H.faults shelf.new ≡ H.faults shelf.old }
+    ensures shelf { PassesShelf (result ≡ Err Stop.ShelfFault) (result ≡ Err Stop.ShelfFault) (H.files shelf.old) (H.files shelf.new) (H.faults shelf.old) (H.faults shelf.new) }
     ensures unasked { result ≢ Err Stop.ClockFault }
 {
     match fetch_file(alloc, shelf, name, MOST_TEXT_BYTES)? {

@@ -1,8 +1,7 @@
 //! `dump NAME`: the text of the requirement, or of the set of requirements, whose blob a file is.
 
-ghost use Rattle.std.specs.Prelude.{◌≡◌, ◌≢◌, ◌≤◌, Err, IfOk};
-ghost use Rattle.gk_io.specs.Faults.{Rose};
-ghost use Rattle.gk_io.specs.Shelf.{KeepsFiles};
+ghost use Rattle.std.specs.Prelude.{◌≡◌, ◌≢◌, Err, IfOk};
+ghost use Rattle.gk_io.specs.Devices.{PassesShelf};
 ghost use Rattle.req_tree.specs.Tree.{tree_of};
 ghost use Rattle.req_blob.specs.declared.limits.TheConstants.{MOST_BYTES};
 ghost use Rattle.dumped_text.specs.Dumped.{dumped};
@@ -26,10 +25,7 @@ use std::alloc::{AllocError, Global};
 pub fn dump_file<H: Shelf>(alloc: Global, name: &str, shelf: &mut H) -> Result<Said, Stop>
     ensures says { IfOk result (λ said. SaysOnFile Dumps (H.files shelf.old) name.now MOST_BYTES said.status said.text) }
     ensures spoken { IfOk result (λ said. IsSpoken said.status) }
-    ensures kept { KeepsFiles (H.files shelf.old) (H.files shelf.new) }
-    ensures later { H.faults shelf.old ≤ H.faults shelf.new }
-    ensures cause { result ≡ Err Stop.ShelfFault → Rose (H.faults shelf.old) (H.faults shelf.new) }
-    ensures steady { result ≢ Err Stop.ShelfFault → H.faults shelf.new ≡ H.faults shelf.old }
+    ensures shelf { PassesShelf (result ≡ Err Stop.ShelfFault) (result ≡ Err Stop.ShelfFault) (H.files shelf.old) (H.files shelf.new) (H.faults shelf.old) (H.faults shelf.new) }
     ensures unasked { result ≢ Err Stop.ClockFault }
 {
     match fetch_file(alloc, shelf, name, MOST_BYTES)? {

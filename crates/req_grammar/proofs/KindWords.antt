@@ -14,9 +14,10 @@ use Rattle.req_grammar.specs.Grammar as g
 use Rattle.req_grammar.specs.Grammar.{KeyRule, IsCert, Slot, Test, Keyed, Primary, Expr, Term, Factor, KindWord, Parts}
 use Rattle.req_grammar.specs.Readings.{AnyKey, CertTest, Collects, ReadsSet}
 use Rattle.req_grammar.specs.ReadingFaults.{IsBadKey, IsCertKey, IsRepeated}
+use Rattle.req_grammar.specs.Reader.{kind_of}
 use Rattle.req_grammar.proofs.Balance.{count_first}
 use Rattle.req_grammar.proofs.Balance.{count_joined as count_seam}
-use Rattle.req_grammar.proofs.Sets.{kind_of, kind_read}
+use Rattle.req_grammar.proofs.Sets.{kind_read}
 use Rattle.req_grammar.proofs.KeyPlaces.{KeyIn, begins_bracket, behind_first, no_key, split_at}
 use Rattle.req_grammar.proofs.GoodKeys.{AllGood, good_end, good_middle, expr_good}
 use Rattle.req_grammar.proofs.NoBadKey.{NoneBad, begins_joined, expr_begins, expr_none_bad}

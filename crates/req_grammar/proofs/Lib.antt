@@ -14,10 +14,12 @@ pub mod Cuts
 pub mod OneFault
 pub mod Cutting
 pub mod Sound
+pub mod SetSound
 pub mod Rekeyed
 pub mod WorkedOids
 pub mod WorkedTexts
 pub mod WorkedCuts
 pub mod WorkedFaults
+pub mod WorkedSets
 pub mod WorkedLimits
 pub mod WorkedFirst

@@ -1,5 +1,5 @@
 -- A list of terminals is read as one set at most.
-use Rattle.std.proofs.Common.{◌≡◌, ℕ, zero, suc, ◌≤◌, List, [], ◌∷◌, ◌++◌, length, Option, Some, None, option_map, refl, sym, ap, subst, ◌∙◌, arith, length-append}
+use Rattle.std.proofs.Common.{◌≡◌, ℕ, zero, suc, ◌≤◌, ◌==◌, Bool, true, false, if◌then◌else◌, List, [], ◌∷◌, ◌++◌, length, Option, Some, None, is_some, option_map, refl, sym, ap, subst, ◌∙◌, arith, length-append}
 use Rattle.req_tree.specs.Tree.{Tree}
 use Rattle.req_tree.specs.TreeSet.{TreeSet, with_part}
 use Rattle.req_grammar.specs.Words as w
@@ -7,19 +7,10 @@ use Rattle.req_grammar.specs.Words.{Word}
 use Rattle.req_grammar.specs.Terminals.{Terminal, sign, word}
 use Rattle.req_grammar.specs.Grammar as g
 use Rattle.req_grammar.specs.Grammar.{KeyRule, Expr, KindWord, Parts}
-use Rattle.req_grammar.specs.Readings.{CertTest, Collects, ReadsSet}
-use Rattle.req_grammar.specs.Reader.{onward, and_at, or_at, expr_by, factor_at}
+use Rattle.req_grammar.specs.Readings.{AnyKey, CertTest, Collects, ReadsSet, ShapeSet}
+use Rattle.req_grammar.specs.Reader.{onward, and_at, or_at, expr_by, factor_at, kind_of, parts_at, has_set_shape}
 use Rattle.req_grammar.proofs.Readings.{Stops, end, kind, Raw, IsSingle, raw_one, IsExprRead, expr_read, expr_done}
 use Rattle.req_grammar.proofs.Keys.{OneOid, cert_test_one}
-
--- the kind that a word names, or 0
-abbrev pub kind_of : Word → ℕ
-kind_of w.host = 1
-kind_of w.guest = 2
-kind_of w.designated = 3
-kind_of w.library = 4
-kind_of w.plugin = 5
-kind_of other = 0
 
 pub kind_read : (k : Word) (n : ℕ) → KindWord k n → kind_of k ≡ n
 kind_read k n g.host = refl
@@ -42,11 +33,13 @@ kind_no_or k n g.designated rest = refl
 kind_no_or k n g.library rest = refl
 kind_no_or k n g.plugin rest = refl
 
-parts_at : ℕ → ℕ → List Terminal → Option (List (ℕ × Tree))
-parts_at n d [] = Some []
-parts_at (suc n) d (word k ∷ sign w.arrow ∷ rest) =
-    onward (λ x left. option_map (λ (parts : List (ℕ × Tree)). (kind_of k, x) ∷ parts) (parts_at n d left)) (expr_by d (factor_at d) rest)
-parts_at n d here = None
+-- a word for a kind names one
+pub named : (k : Word) (n : ℕ) → KindWord k n → (kind_of k == 0) ≡ false
+named k n g.host = refl
+named k n g.guest = refl
+named k n g.designated = refl
+named k n g.library = refl
+named k n g.plugin = refl
 
 abbrev RawParts : KeyRule → List (ℕ × Tree) → List (ℕ × Tree) → Type 0
 RawParts rule [] parts = parts ≡ []
@@ -67,7 +60,8 @@ unfolding parts_at
 part_reads k kind_is a b raw raws zero d is long read others = absurd (omega (arith, long))
 part_reads k kind_is a b raw raws (suc n) d is long read others =
     let fits : length b ≤ n = omega (arith, long, length-append a b) in
-    ap (onward (λ x left. option_map (λ (parts : List (ℕ × Tree)). (kind_of k, x) ∷ parts) (parts_at n d left))) read
+    ap (λ (none : Bool). if none then None else onward (λ x left. option_map (λ (parts : List (ℕ × Tree)). (kind_of k, x) ∷ parts) (parts_at n d left)) (expr_by d (factor_at d) (a ++ b))) (named k kind_is is)
+    ∙ ap (onward (λ x left. option_map (λ (parts : List (ℕ × Tree)). (kind_of k, x) ∷ parts) (parts_at n d left))) read
     ∙ ap (option_map (λ (parts : List (ℕ × Tree)). (kind_of k, raw) ∷ parts)) (others n fits)
     ∙ ap (λ (m : ℕ). Some ((m, raw) ∷ raws)) (kind_read k kind_is is)
 
@@ -131,3 +125,8 @@ collects_one (part ∷ parts) s r (o, h, free, e) (u, i, freed, k) = e ∙ ap (w
 pub one_set : OneOid → (terminals : List Terminal) (s r : TreeSet) → ReadsSet terminals s → ReadsSet terminals r → s ≡ r
 one_set one terminals s r (parts, h, c) (others, i, k) =
     collects_one others s r (subst (λ (those : List (ℕ × Tree)). Collects those s) (parts_one CertTest (cert_test_one one) terminals parts others h i) c) k
+
+-- what has the shape of a set is read as the parts of one
+pub has_set_shape-complete : (a : List Terminal) → ShapeSet a → has_set_shape a ≡ true
+has_set_shape-complete a s =
+    let f : IsPartsRead AnyKey a s.0 = parts_read AnyKey a s.0 s.1 in ap is_some (f.reads (length a) (length a) (omega arith) (omega arith))

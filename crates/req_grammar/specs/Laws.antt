@@ -9,7 +9,7 @@ use Rattle.req_grammar.specs.Tokens.{IsToken, Kind, Token, Tokens}
 use Rattle.req_grammar.specs.Places.{FitsKind, IsPlaced}
 use Rattle.req_grammar.specs.TokenFaults.{TokenFault, FirstFault}
 use Rattle.req_grammar.specs.Sorts.{Sort, IsCut, sort_of}
-use Rattle.req_grammar.specs.Reader.{has_shape}
+use Rattle.req_grammar.specs.Reader.{has_set_shape, has_shape}
 use Rattle.req_grammar.specs.Readings.{IsRequirementText, IsSetText, IsViable, IsViableSet, Reads, ReadsSet, Shape, ShapeSet, is_left, is_right}
 use Rattle.req_grammar.specs.ReadingFaults.{IsBadKey, IsCertKey, IsRepeated, StandsForTest}
 
@@ -67,6 +67,10 @@ OneTreeSet = (text : List ℕ) (s r : TreeSet) → IsSetText text s → IsSetTex
 -- the reader tells whether a list has a shape
 abbrev pub ShapesAreRead : Type 0
 ShapesAreRead = (terminals : List Terminal) → (has_shape terminals ≡ true) ↔ Shape terminals
+
+-- and whether it has the shape of a set
+abbrev pub SetShapesAreRead : Type 0
+SetShapesAreRead = (terminals : List Terminal) → (has_set_shape terminals ≡ true) ↔ ShapeSet terminals
 
 -- the tree of a requirement's text can be written as a blob
 abbrev pub TextsAreEncodable : Type 0

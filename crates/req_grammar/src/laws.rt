@@ -1,6 +1,6 @@
 //! Laws over the definitions: functions that do nothing and whose contracts are the laws.
 
-ghost use Rattle.req_grammar.specs.Laws.{FaultyTextsHaveNoTokens, FrontsAreViable, FrontsAreViableSets, FrontsTellTheirSort, GoodKeysAreRead, GoodSetsAreRead, OneFirstFault, OneReading, OneSet, OneTokenList, OneTree, OneTreeSet, ParenthesesBalance, ParenthesesOfSetsBalance, ReadingsHaveNoBadKey, ReadingsHaveShapes, SetTextsAreEncodable, SetsHaveNoBadKey, SetsHaveShapes, SetsRepeatNoKind, ShapesAreRead, TerminalsFitTheirKind, TextsAreEncodable, TokensArePlaced};
+ghost use Rattle.req_grammar.specs.Laws.{FaultyTextsHaveNoTokens, FrontsAreViable, FrontsAreViableSets, FrontsTellTheirSort, GoodKeysAreRead, GoodSetsAreRead, OneFirstFault, OneReading, OneSet, OneTokenList, OneTree, OneTreeSet, ParenthesesBalance, ParenthesesOfSetsBalance, ReadingsHaveNoBadKey, ReadingsHaveShapes, SetShapesAreRead, SetTextsAreEncodable, SetsHaveNoBadKey, SetsHaveShapes, SetsRepeatNoKind, ShapesAreRead, TerminalsFitTheirKind, TextsAreEncodable, TokensArePlaced};
 
 use req_tree::laws::a_text_has_one_oid;
 
@@ -48,9 +48,10 @@ pub fn texts_say_one_tree()
     a_text_has_one_oid();
 }
 
-/// The reader of terminals tells whether a list has a shape.
+/// The reader of terminals tells whether a list has a shape, and whether it has that of a set.
 pub fn shapes_are_read()
-    ensures { ShapesAreRead }
+    ensures tree { ShapesAreRead }
+    ensures set { SetShapesAreRead }
 {}
 
 /// The tree of a requirement's text can be written as a blob, and so can each tree of a set's text.

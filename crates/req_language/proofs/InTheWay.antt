@@ -1,7 +1,6 @@
 -- What reading and writing again leaves in the way.
-use Rattle.std.proofs.Common.{◌≡◌, ◌≢◌, ℕ, List, Result, Ok, Err, refl, sym, ◌∙◌, ◌<◌, ◌≤◌, ◌⊎◌, inl, inr, arith}
-use Rattle.std.specs.Result.{IfOk}
-use Rattle.req_tree.specs.Tree.{Tree}
+use Rattle.std.proofs.Common.{◌≡◌, ◌≢◌, ℕ, List, Result, Ok, Err, refl, ◌<◌, ◌≤◌, ◌⊎◌, inl, inr, arith}
+use Rattle.std.specs.Result.{IfOk, IfErr}
 use Rattle.req_blob.specs.declared.fault.OpsFault.{OpsFault}
 use Rattle.req_blob.specs.declared.fault.OpsFault.TheVariants as ops
 use Rattle.req_blob.specs.declared.limits.TheConstants.{MOST_BYTES}
@@ -28,10 +27,10 @@ sure (ops.BadOid a) h = absurd (h (λ e. cc))
 sure ops.TooLong h = absurd (h (λ e. cc))
 sure (ops.BadKey a) h = absurd (h (λ e. cc))
 
--- what is read isn't refused
-pub not_both : (read : Result Tree OpsFault) (tree : Tree) (why : OpsFault) → read ≡ Ok tree → read ≡ Err why → ⊥
-not_both read tree why e h = let both : Ok tree ≡ Err why = sym e ∙ h in cc
-
 pub if_ok_map : {F : Type 0} (r : Result (List ℕ) F) (P Q : List ℕ → Type 0) → ((x : List ℕ) → P x → Q x) → IfOk r P → IfOk r Q
 if_ok_map (Ok x) P Q f h = f x h
 if_ok_map (Err e) P Q f h = h
+
+pub if_err_map : {F : Type 0} (r : Result (List ℕ) F) (P Q : F → Type 0) → ((e : F) → P e → Q e) → IfErr r P → IfErr r Q
+if_err_map (Ok x) P Q f h = h
+if_err_map (Err e) P Q f h = f e h

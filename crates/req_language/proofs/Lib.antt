@@ -1,5 +1,6 @@
 mod Promises
 mod InTheWay
+mod Refusals
 mod OidLengths
 mod Weights
 mod TokenWeights

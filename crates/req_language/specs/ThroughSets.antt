@@ -5,7 +5,9 @@ use Rattle.req_tree.specs.Spellable.{IsShallow}
 use Rattle.req_grammar.specs.Readings.{IsSetText}
 use Rattle.req_blob.specs.declared.fault.OpsFault.TheVariants as ops
 use Rattle.req_ops.specs.declared.fault.SetFault.TheVariants as sets
+use Rattle.req_ops.specs.Sets.{IsSetSpelling, SetFails}
 use Rattle.req_ops.specs.SetEncoding.{IsPlainSet}
+use Rattle.dumped_text.specs.Dumped.{dumped_set}
 use Rattle.req_parser.specs.SetFailures.{FailsSetText}
 use Rattle.req_tokens.specs.declared.fault.TextFault.TheVariants as text
 use Rattle.req_language.specs.declared.through_sets.SetLanguageFault.{SetLanguageFault}
@@ -32,3 +34,10 @@ abbrev pub IsSetMemory : SetLanguageFault → Type 0
 IsSetMemory (Bytes why) = why ≡ sets.OutOfMemory
 IsSetMemory (Text why) = why ≡ text.OutOfMemory
 IsSetMemory (Blob why) = why ≡ ops.OutOfMemory
+
+-- why a set's bytes don't come back: they are no set, and this is their first fault; or the text of the set that they
+-- spell has this fault; or there was no memory
+abbrev pub IsThroughSetFault : List ℕ → SetLanguageFault → Type 0
+IsThroughSetFault bytes (Bytes why) = SetFails bytes why
+IsThroughSetFault bytes (Text why) = (set : TreeSet) × IsSetSpelling set bytes × FailsSetText (dumped_set set) why
+IsThroughSetFault bytes (Blob why) = why ≡ ops.OutOfMemory

@@ -4,6 +4,7 @@ ghost use Rattle.std.specs.Prelude.{◌≡◌, ◌≢◌, IfOk, IfErr, Err};
 ghost use Rattle.req_tree.specs.Tree.{Tree};
 ghost use Rattle.req_tree.specs.TreeSet.{TreeSet};
 ghost use Rattle.req_blob.specs.Decoding.{decoded};
+ghost use Rattle.req_blob.specs.Spelling.{IsSpelling};
 ghost use Rattle.req_blob.specs.declared.fault.OpsFault.TheVariants as ops;
 ghost use Rattle.req_ops.specs.Sets.{IsSetSpelling, SetFails};
 ghost use Rattle.req_language.specs.Steps.{IsTextOf, IsSetTextOf};
@@ -19,6 +20,8 @@ pub fn text_of(alloc: Global, bytes: &[u8]) -> Result<Bytes, OpsFault>
     ensures text { IfOk result (IsTextOf bytes.now) }
     // The bytes are no requirement, and this is their first fault, unless memory ran out.
     ensures fault { IfErr result (λ fault. fault ≢ ops.OutOfMemory → decoded bytes.now ≡ Err fault) }
+    // A requirement's bytes have their text, unless memory ran out.
+    ensures only { (tree : Tree) → IsSpelling tree bytes.now → IfErr result (λ fault. fault ≡ ops.OutOfMemory) }
 {
     match decode(alloc, bytes) {
         Ok(req) => {

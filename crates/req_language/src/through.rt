@@ -9,16 +9,14 @@ ghost use Rattle.req_grammar.specs.Readings.{IsRequirementText};
 ghost use Rattle.req_blob.specs.Spelling.{IsSpelling};
 ghost use Rattle.dumped_text.specs.Dumped.{dumped};
 ghost use Rattle.req_language.specs.Promise.{ComesBack};
-ghost use Rattle.req_language.specs.Through.{IsBlobOf, IsMemory, IsTextFault};
+ghost use Rattle.req_language.specs.Through.{IsBlobOf, IsMemory, IsTextFault, IsThroughFault};
 
 use crate::laws::{
     a_printed_text_says_one_normal_form, normal_forms_come_back, texts_have_short_blobs,
 };
 use crate::printing::text_of;
 use dumped_text::laws::texts_are_normal_forms;
-use req_blob::laws::{
-    a_blob_spells_one_tree, bytes_are_read_where_they_spell, what_is_refused_is_too_long,
-};
+use req_blob::laws::{a_blob_spells_one_tree, what_is_refused_is_too_long};
 use req_blob::{OpsFault, encode};
 use req_parser::{TextFault, parse};
 use req_tree::Bytes;
@@ -38,12 +36,13 @@ pub fn through_text(alloc: Global, bytes: &[u8]) -> Result<Bytes, LanguageFault>
     ensures back { IfOk result (ComesBack bytes.now) }
     // Nothing else is in the way than memory.
     ensures only { (tree : Tree) → IsSpelling tree bytes.now → length (dumped tree) ≤ MOST_TEXT_BYTES → IsShallow (normal tree) → IfErr result IsMemory }
+    // Which fault it is, unless memory ran out.
+    ensures fault { IfErr result (IsThroughFault bytes.now) }
 {
     normal_forms_come_back();
     a_printed_text_says_one_normal_form();
     texts_are_normal_forms();
     a_blob_spells_one_tree();
-    bytes_are_read_where_they_spell();
     match text_of(alloc, bytes) {
         Ok(text) => blob_of(alloc, text.as_slice()),
         Err(fault) => Err(LanguageFault::Bytes(fault)),

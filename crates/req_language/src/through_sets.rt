@@ -8,7 +8,7 @@ ghost use Rattle.req_ops.specs.Sets.{IsSetSpelling};
 ghost use Rattle.dumped_text.specs.Dumped.{dumped_set};
 ghost use Rattle.dumped_text.specs.Sets.{normal_set};
 ghost use Rattle.req_language.specs.Promise.{SetComesBack};
-ghost use Rattle.req_language.specs.ThroughSets.{IsSetBlobOf, IsShallowSet, IsSetMemory, IsSetTextFault};
+ghost use Rattle.req_language.specs.ThroughSets.{IsSetBlobOf, IsShallowSet, IsSetMemory, IsSetTextFault, IsThroughSetFault};
 
 use crate::laws::{
     a_printed_set_says_one_normal_form, normal_sets_come_back, texts_have_short_blobs,
@@ -37,6 +37,8 @@ pub fn through_text_set(alloc: Global, bytes: &[u8]) -> Result<Bytes, SetLanguag
     ensures back { IfOk result (SetComesBack bytes.now) }
     // Nothing else is in the way than memory.
     ensures only { (set : TreeSet) → IsSetSpelling set bytes.now → length (dumped_set set) ≤ MOST_TEXT_BYTES → IsShallowSet (normal_set set) → IfErr result IsSetMemory }
+    // Which fault it is, unless memory ran out.
+    ensures fault { IfErr result (IsThroughSetFault bytes.now) }
 {
     normal_sets_come_back();
     a_printed_set_says_one_normal_form();

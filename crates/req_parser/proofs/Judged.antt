@@ -20,8 +20,10 @@ use Rattle.req_primary.specs.Laws.{OperandsAreRead, PlainReadingsStand, Readings
 use Rattle.req_parser.specs.Given.{IsFault, IsWholeOutcome}
 use Rattle.req_parser.specs.Reading.{whole_at}
 use Rattle.req_parser.specs.Failures.{FailsBehind, FailsTerminals, FailsText, IsBadKeyFault, IsRequirementList, text_fault_of}
+use Rattle.req_parser.proofs.Leads.{LeadingLaws}
 use Rattle.req_parser.proofs.Read.{whole_read}
 use Rattle.req_parser.proofs.Sound.{err_ok, ok_is, whole_sound}
+use Rattle.req_parser.proofs.Taken.{whole_taken}
 
 pub fine_found : WhatIsReadIsAnOperand → PlainReadingsStand → (list : List Terminal) (x : Tree) (depth : ℕ) → HasFewOpen list → IsWholeOutcome (whole_at list) (fine x depth)
     → IsRequirementList list x
@@ -54,11 +56,14 @@ bad_key_fails list other few shape first = absurd first
 pub syntax_is_no_want : (token : ℕ) → r.Syntax token ≢ r.OutOfMemory
 syntax_is_no_want token e = cc
 
-pub reading_fails : OperandsAreRead → ParenthesesBalance → (list : List Terminal) (fault : ReadingFault) → HasFewOpen list → IsFault (whole_at list) fault
+pub reading_fails : LeadingLaws → OperandsAreRead → ParenthesesBalance → (list : List Terminal) (fault : ReadingFault) → HasFewOpen list → IsFault (whole_at list) fault
     → FailsTerminals list (text_fault_of fault)
-reading_fails read balance list (r.Syntax token) few is =
-    (few, λ shape. err_ok (r.Syntax token) shape.0 (sym (is (syntax_is_no_want token)) ∙ whole_read read balance list shape.0 few shape.1))
-reading_fails read balance list r.OutOfMemory few is = tt
+reading_fails leading read balance list (r.Syntax token) few is = (
+  few,
+  whole_taken leading list token few (is (syntax_is_no_want token)),
+  λ shape. err_ok (r.Syntax token) shape.0 (sym (is (syntax_is_no_want token)) ∙ whole_read read balance list shape.0 few shape.1),
+)
+reading_fails leading read balance list r.OutOfMemory few is = tt
 
 -- ---- a text that fails says nothing
 
@@ -66,7 +71,7 @@ abbrev pub ListsDiffer : Type 0
 ListsDiffer = (list : List Terminal) (fault : TextFault) (x : Tree) → fault ≢ f.OutOfMemory → FailsTerminals list fault → IsRequirementList list x → ⊥
 
 pub list_fails : OneReading → ReadingsHaveShapes → ReadingsHaveNoBadKey → ListsDiffer
-list_fails one shapes no_bad list (f.Syntax token) x other (few, none) is = none (shapes list x is.reads)
+list_fails one shapes no_bad list (f.Syntax token) x other (few, taken, none) is = none (shapes list x is.reads)
 list_fails one shapes no_bad list (f.BadKey token) x other (few, shape, first) is = no_bad list x token first.key is.reads first.stands first.bad
 list_fails one shapes no_bad list f.TooDeep x other (inl many) is =
     let few : count_by is_left many.front ≤ _ = is.opens many.front many.rest many.parts in absurd (omega (arith, few, many.many))
@@ -105,7 +110,7 @@ no_tokens none text (f.BadHex at) tokens other (short, fails) has = none 0 at te
 no_tokens none text (f.IntTooLarge at) tokens other (short, fails) has = none 0 at text _ tokens fails has.tokens_are
 no_tokens none text fault tokens other (short, fails) has = fails
 
-as_list : OneTokenList → (text : List ℕ) (list : List Terminal) (x : Tree) → AreTerminals text list → IsRequirementText text x → IsRequirementList list x
+pub as_list : OneTokenList → (text : List ℕ) (list : List Terminal) (x : Tree) → AreTerminals text list → IsRequirementText text x → IsRequirementList list x
 as_list tokens text list x are is =
     let same : g.terminals text is.tokens ≡ list = ap (λ (t : List Token). g.terminals text t) (tokens 0 text is.tokens are.tokens is.cut.tokens_are are.cut.tokens_are) ∙ sym are.are in
     record { opens = subst HasFewOpen same is.opens; reads = subst (λ (terminals : List Terminal). Reads terminals x) same is.reads; shallow = is.shallow }

@@ -5,6 +5,8 @@ pub mod Sound
 pub mod Chains
 pub mod Outcomes
 pub mod OpenFronts
+pub mod Leads
+pub mod Taken
 pub mod Judged
 pub mod KeyPlaces
 pub mod Repeats
@@ -13,3 +15,5 @@ pub mod SetMade
 pub mod SetSound
 pub mod SetRead
 pub mod SetJudged
+pub mod OneFault
+pub mod Neither

@@ -28,6 +28,8 @@ use Rattle.req_parser.specs.Gathering.{AllFit, gathered}
 use Rattle.req_parser.specs.Kinds.{first_repeated}
 use Rattle.req_parser.specs.Failures.{text_fault_of}
 use Rattle.req_parser.specs.SetFailures.{AreShallow, FailsSetBehind, FailsSetTerminals, FailsSetText, HasDeepPart, IsSetList}
+use Rattle.req_parser.proofs.Leads.{LeadingLaws}
+use Rattle.req_parser.proofs.Taken.{parts_taken}
 use Rattle.req_parser.proofs.Judged.{memory_or_not, no_tokens, syntax_is_no_want}
 use Rattle.req_parser.proofs.Repeats.{Told, repeated_is}
 use Rattle.req_parser.proofs.SetMade.{Makes, PartsStand, makes}
@@ -90,11 +92,14 @@ first_told list told token e is = subst (λ (o : Option ℕ). MatchOption o (Has
 pub twice_fails : (list : List Terminal) (token : ℕ) → HasFewOpen list → ShapeSet list → HasGoodKeys list → first_repeated list ≡ Some token → FailsSetTerminals list (f.KindTwice token)
 twice_fails list token few shape keys found = (few, shape, keys, subst (Told list) found (repeated_is list))
 
-pub set_reading_fails : OperandsAreRead → ParenthesesBalance → (list : List Terminal) (fault : ReadingFault) → HasFewOpen list → IsFault (parts_at list) fault
+pub set_reading_fails : LeadingLaws → OperandsAreRead → ParenthesesBalance → (list : List Terminal) (fault : ReadingFault) → HasFewOpen list → IsFault (parts_at list) fault
     → FailsSetTerminals list (text_fault_of fault)
-set_reading_fails read balance list (r.Syntax token) few is =
-    (few, λ shape. err_ok (r.Syntax token) shape.0 (sym (is (syntax_is_no_want token)) ∙ list_read read balance list shape.0 few shape.1))
-set_reading_fails read balance list r.OutOfMemory few is = tt
+set_reading_fails leading read balance list (r.Syntax token) few is = (
+  few,
+  parts_taken leading list token few (is (syntax_is_no_want token)),
+  λ shape. err_ok (r.Syntax token) shape.0 (sym (is (syntax_is_no_want token)) ∙ list_read read balance list shape.0 few shape.1),
+)
+set_reading_fails leading read balance list r.OutOfMemory few is = tt
 
 -- ---- a text that fails is no set
 
@@ -109,7 +114,7 @@ not_deep set low h =
 
 set_list_fails : OneSet → SetsHaveShapes → SetsHaveNoBadKey → SetsRepeatNoKind → (list : List Terminal) (fault : TextFault) (set : TreeSet) → fault ≢ f.OutOfMemory
     → FailsSetTerminals list fault → IsSetList list set → ⊥
-set_list_fails one shapes no_bad no_twice list (f.Syntax token) set other (few, none) is = none (shapes list set is.reads)
+set_list_fails one shapes no_bad no_twice list (f.Syntax token) set other (few, taken, none) is = none (shapes list set is.reads)
 set_list_fails one shapes no_bad no_twice list (f.BadKey token) set other (few, shape, first) is = no_bad list set token first.key is.reads first.stands first.bad
 set_list_fails one shapes no_bad no_twice list (f.KindTwice token) set other (few, shape, keys, first) is = no_twice list set token is.reads first.stands
 set_list_fails one shapes no_bad no_twice list f.TooDeep set other (inl many) is =
@@ -119,11 +124,15 @@ set_list_fails one shapes no_bad no_twice list f.TooDeep set other (inr (few, fo
 set_list_fails one shapes no_bad no_twice list f.OutOfMemory set other fails is = other refl
 set_list_fails one shapes no_bad no_twice list fault set other fails is = fails
 
-set_behind_fails : (text : List ℕ) (list : List Terminal) (fault : TextFault) → AreTerminals text list → FailsSetTerminals list fault → FailsSetText text fault
+pub set_behind_fails : (text : List ℕ) (list : List Terminal) (fault : TextFault) → AreTerminals text list → FailsSetTerminals list fault → FailsSetText text fault
 set_behind_fails text list f.OutOfMemory are fails = tt
 set_behind_fails text list fault are fails = inr (record { list = list; are = are; fails = fails })
 
-set_behind_found : (text : List ℕ) (list : List Terminal) (set : TreeSet) → AreTerminals text list → IsSetList list set → IsSetText text set
+pub set_tokens_fail : (text : List ℕ) (fault : TextFault) → FailsTokens text fault → FailsSetText text fault
+set_tokens_fail text f.OutOfMemory fails = tt
+set_tokens_fail text fault fails = inl fails
+
+pub set_behind_found : (text : List ℕ) (list : List Terminal) (set : TreeSet) → AreTerminals text list → IsSetList list set → IsSetText text set
 set_behind_found text list set are is = record {
   tokens = are.tokens;
   cut = are.cut;

@@ -1,4 +1,4 @@
--- Which fault a text has: the first of the checks that fails. The place of a Syntax fault is left open.
+-- Which fault a text has, and where: the first of the checks that fails.
 use Rattle.std.specs.Prelude.{ℕ, ◌≡◌, ◌<◌, ◌+◌, ◌⊎◌, List, ◌++◌, count_by}
 use Rattle.req_tree.specs.declared.limits.TheConstants.{MOST_DEPTH}
 use Rattle.req_tree.specs.Tree.{Tree}
@@ -8,6 +8,7 @@ use Rattle.req_grammar.specs.declared.limits.TheConstants.{MOST_OPEN_PARENTHESES
 use Rattle.req_grammar.specs.Terminals.{Terminal}
 use Rattle.req_grammar.specs.Readings.{HasFewOpen, Reads, Shape, is_left, is_right}
 use Rattle.req_grammar.specs.ReadingFaults.{IsFirstBadKey}
+use Rattle.req_machine.specs.Machine.{IsTaken, expr}
 use Rattle.req_primary.specs.declared.fault.ReadingFault.{ReadingFault}
 use Rattle.req_primary.specs.declared.fault.ReadingFault.TheVariants as r
 use Rattle.req_tokens.specs.Terminals.{AreTerminals}
@@ -28,9 +29,9 @@ pub record ReadsTooDeep (list : List Terminal) : Type 0 where
   pub reads : Reads list tree
   pub deep : MOST_DEPTH < depth_of tree
 
--- which fault the terminals have
+-- which fault the terminals have; a Syntax fault names the first that the machine doesn't take off, or their number
 abbrev pub FailsTerminals : List Terminal → TextFault → Type 0
-FailsTerminals list (Syntax token) = HasFewOpen list × (Shape list → ⊥)
+FailsTerminals list (Syntax token) = HasFewOpen list × IsTaken expr list token × (Shape list → ⊥)
 FailsTerminals list (BadKey token) = HasFewOpen list × Shape list × IsFirstBadKey list token
 FailsTerminals list TooDeep = HasManyOpen list ⊎ (HasFewOpen list × ReadsTooDeep list)
 FailsTerminals list OutOfMemory = Unit {0}

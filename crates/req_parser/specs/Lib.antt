@@ -8,3 +8,4 @@ pub mod SetReading
 pub mod GivenParts
 pub mod Gathering
 pub mod SetFailures
+pub mod Laws

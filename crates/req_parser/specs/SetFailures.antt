@@ -1,4 +1,4 @@
--- Which fault the text of a set has: the first of the checks that fails. The place of a Syntax fault is left open.
+-- Which fault the text of a set has, and where: the first of the checks that fails.
 use Rattle.std.specs.Prelude.{ℕ, ◌≡◌, ◌<◌, ◌⊎◌, List, Some, IfSome}
 use Rattle.req_tree.specs.declared.limits.TheConstants.{MOST_DEPTH}
 use Rattle.req_tree.specs.Tree.{Tree}
@@ -9,6 +9,8 @@ use Rattle.req_grammar.specs.Terminals.{Terminal}
 use Rattle.req_grammar.specs.Readings.{HasFewOpen, ReadsSet, ShapeSet}
 use Rattle.req_grammar.specs.ReadingFaults.{IsFirstBadKey, IsFirstRepeated}
 use Rattle.req_grammar.specs.Laws.{HasGoodKeys}
+use Rattle.req_machine.specs.Machine as machine
+use Rattle.req_machine.specs.Machine.{IsTaken}
 use Rattle.req_tokens.specs.Terminals.{AreTerminals}
 use Rattle.req_tokens.specs.Failures.{FailsTokens}
 use Rattle.req_tokens.specs.declared.fault.TextFault.{TextFault}
@@ -28,9 +30,9 @@ pub record ReadsDeepSet (list : List Terminal) : Type 0 where
   pub reads : ReadsSet list set
   pub deep : HasDeepPart set
 
--- which fault the terminals of a set have
+-- which fault the terminals of a set have; a Syntax fault names the first that the machine doesn't take off, or their number
 abbrev pub FailsSetTerminals : List Terminal → TextFault → Type 0
-FailsSetTerminals list (Syntax token) = HasFewOpen list × (ShapeSet list → ⊥)
+FailsSetTerminals list (Syntax token) = HasFewOpen list × IsTaken machine.set list token × (ShapeSet list → ⊥)
 FailsSetTerminals list (BadKey token) = HasFewOpen list × ShapeSet list × IsFirstBadKey list token
 FailsSetTerminals list (KindTwice token) = HasFewOpen list × ShapeSet list × HasGoodKeys list × IsFirstRepeated list token
 FailsSetTerminals list TooDeep = HasManyOpen list ⊎ (HasFewOpen list × ReadsDeepSet list)

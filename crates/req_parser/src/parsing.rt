@@ -20,8 +20,10 @@ use crate::tree::whole_at;
 use req_grammar::laws::{
     good_shapes_are_read, parentheses_balance, texts_are_encodable, texts_say_one_tree,
 };
+use req_machine::laws::ways_are_balanced;
 use req_primary::laws::{
-    operands_are_read, plain_readings_stand_for_readings, what_is_read_is_an_operand,
+    operands_are_read, operands_stop_where_the_machine_does, plain_readings_stand_for_readings,
+    what_is_read_is_an_operand,
 };
 use req_primary::{Built, ReadingFault, Rest};
 use req_tokens::{TextFault, terminals};
@@ -37,7 +39,7 @@ pub fn parse(alloc: Global, text: &[u8]) -> Result<Req, TextFault>
     // What the text says is read, unless there is no memory.
     ensures only { (tree : Tree) → IsRequirementText text.now tree
         → MatchResult result (λ req. tree_of req ≡ tree) (λ fault. fault ≡ TextFault.OutOfMemory) }
-    // Which fault it is, and where, the place of a Syntax fault aside.
+    // Which fault it is, and where.
     ensures exact { IfErr result (FailsText text.now) }
     // What is read can be written as a blob.
     ensures encodable { IfOk result (λ req. IsEncodable (tree_of req)) }
@@ -66,7 +68,9 @@ fn requirement_of<'a>(alloc: Global, list: Rest<'a>) -> Result<Req, TextFault>
         return Err(TextFault::TooDeep);
     }
     operands_are_read();
+    operands_stop_where_the_machine_does();
     parentheses_balance();
+    ways_are_balanced();
     match whole_at(alloc, list) {
         Ok(built) => judged(alloc, list, built),
         Err(fault) => Err(fault_of(fault)),

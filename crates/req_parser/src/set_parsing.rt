@@ -22,9 +22,11 @@ use req_grammar::laws::{
     good_shapes_are_read, parentheses_balance, terminals_have_one_reading, texts_are_encodable,
     texts_say_one_tree,
 };
+use req_machine::laws::ways_are_balanced;
 use req_primary::Rest;
 use req_primary::laws::{
-    operands_are_read, plain_readings_stand_for_readings, what_is_read_is_an_operand,
+    operands_are_read, operands_stop_where_the_machine_does, plain_readings_stand_for_readings,
+    what_is_read_is_an_operand,
 };
 use req_tokens::{TextFault, terminals};
 use req_tree::ReqSet;
@@ -39,7 +41,7 @@ pub fn parse_set(alloc: Global, text: &[u8]) -> Result<ReqSet, TextFault>
     // What the text says is read, unless there is no memory.
     ensures only { (wanted : TreeSet) → IsSetText text.now wanted
         → MatchResult result (λ set. set ≡ wanted) (λ fault. fault ≡ TextFault.OutOfMemory) }
-    // Which fault it is, and where, the place of a Syntax fault aside.
+    // Which fault it is, and where.
     ensures exact { IfErr result (FailsSetText text.now) }
     // What is read can be written as a blob.
     ensures encodable { IfOk result (λ set. IsEncodableSet set) }
@@ -68,7 +70,9 @@ fn set_of<'a>(alloc: Global, list: Rest<'a>) -> Result<ReqSet, TextFault>
         return Err(TextFault::TooDeep);
     }
     operands_are_read();
+    operands_stop_where_the_machine_does();
     parentheses_balance();
+    ways_are_balanced();
     match parts_at(alloc, list) {
         Ok(parts) => with_good_keys(alloc, list, parts),
         Err(fault) => Err(fault_of(fault)),

@@ -4,3 +4,4 @@ pub mod Primaries
 pub mod Operands
 pub mod Keys
 pub mod Laws
+pub mod Leads

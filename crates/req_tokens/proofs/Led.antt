@@ -23,7 +23,7 @@ pub led_first : (text : List ℕ) → Led text text 0 []
 led_first text = record { tokens = λ more is. is; faults = λ fault place is. is }
 
 -- the tokens with what is cut off
-cut_tokens : (sort : Sort) (at : ℕ) (text front rest : List ℕ) (more : List Token) → text ≡ front ++ rest → IsCut sort front rest → Tokens (at + length front) rest more → Tokens at text (added (kind_in sort) at (length front) ++ more)
+pub cut_tokens : (sort : Sort) (at : ℕ) (text front rest : List ℕ) (more : List Token) → text ≡ front ++ rest → IsCut sort front rest → Tokens (at + length front) rest more → Tokens at text (added (kind_in sort) at (length front) ++ more)
 cut_tokens s.hash at text front rest more parts is later = k.one at text front rest more k.hash parts is later
 cut_tokens s.hex at text front rest more parts is later = k.one at text front rest more k.hex parts is later
 cut_tokens s.integer at text front rest more parts is later = k.one at text front rest more k.integer parts is later
@@ -34,7 +34,7 @@ cut_tokens s.blank at text front rest more parts is later = k.dropped at text fr
 cut_tokens s.block at text front rest more parts is later = k.dropped at text front rest more parts (inr (inl is)) later
 cut_tokens s.line at text front rest more parts is later = k.dropped at text front rest more parts (inr (inr is)) later
 
-cut_fault : (sort : Sort) (at place : ℕ) (text front rest : List ℕ) (fault : TokenFault) → text ≡ front ++ rest → IsCut sort front rest → FirstFault (at + length front) rest fault place → FirstFault at text fault place
+pub cut_fault : (sort : Sort) (at place : ℕ) (text front rest : List ℕ) (fault : TokenFault) → text ≡ front ++ rest → IsCut sort front rest → FirstFault (at + length front) rest fault place → FirstFault at text fault place
 cut_fault s.hash at place text front rest fault parts is later = behind_token at place text front rest fault k.hash parts is later
 cut_fault s.hex at place text front rest fault parts is later = behind_token at place text front rest fault k.hex parts is later
 cut_fault s.integer at place text front rest fault parts is later = behind_token at place text front rest fault k.integer parts is later

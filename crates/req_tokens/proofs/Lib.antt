@@ -8,6 +8,7 @@ mod HexTexts
 mod Comments
 mod AllSaid
 mod Led
+mod EachCut
 mod DigitBytes
 mod WordHalves
 mod Only

@@ -9,3 +9,4 @@ pub mod Forms
 pub mod Strings
 pub mod Terminals
 pub mod Failures
+pub mod Laws

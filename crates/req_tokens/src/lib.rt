@@ -4,6 +4,7 @@
 mod cutting;
 mod fault;
 mod front;
+pub mod laws;
 mod number;
 mod part;
 mod reach;

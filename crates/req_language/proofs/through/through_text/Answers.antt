@@ -1,13 +1,15 @@
-use Rattle.std.proofs.Common.{◌≡◌, ℕ, List, sym, ap, subst, ◌∙◌, arith}
+use Rattle.std.proofs.Common.{◌≡◌, ℕ, List, sym, ap, subst, ◌∙◌}
 use Rattle.req_tree.specs.Tree.{Tree}
 use Rattle.req_tree.specs.Normal.{normal}
 use Rattle.req_grammar.specs.Readings.{IsRequirementText}
 use Rattle.req_blob.specs.Spelling.{IsPlain}
 use Rattle.dumped_text.specs.Dumped.{dumped}
 use Rattle.dumped_text.specs.Sayable.{IsSayable}
-use Rattle.req_language.specs.Through.{IsBlobOf}
+use Rattle.req_language.specs.Steps.{IsTextOf}
+use Rattle.req_language.specs.Through.{IsBlobOf, IsTextFault, IsThroughFault}
 use Rattle.req_language.specs.Promise.{ComesBack}
-use Rattle.req_language.proofs.InTheWay.{sure, not_both, if_ok_map}
+use Rattle.req_language.proofs.InTheWay.{if_ok_map, if_err_map}
+use Rattle.req_language.proofs.Refusals.{through_fault}
 use Rattle.req_language.proofs.through.through_text.Goals as goal
 
 pub returns-in-Ok-clause-back : goal.returns-in-Ok-clause-back
@@ -30,5 +32,12 @@ returns-in-Ok-clause-only c tree spelt short shallow =
     (c.texts_are_normal_forms.ensures.tree tree (subst IsSayable same t.sayable) short shallow))
 
 pub returns-in-Err-clause-only : goal.returns-in-Err-clause-only
-returns-in-Err-clause-only c tree spelt short shallow = sure c.in-Err.fault (λ some.
-    not_both _ tree c.in-Err.fault ((c.bytes_are_read_where_they_spell.ensures c.args.bytes.now tree (λ i. omega (arith, c.type_inv.bytes i))).1 spelt) (c.in-Err.ensures.fault some))
+returns-in-Err-clause-only c tree spelt short shallow = c.in-Err.ensures.only tree spelt
+
+pub returns-in-Ok-clause-fault : goal.returns-in-Ok-clause-fault
+returns-in-Ok-clause-fault c =
+    if_err_map c.blob_of.result (IsTextFault c.as_slice.result.now) (IsThroughFault c.args.bytes.now)
+    (through_fault c.args.bytes.now c.as_slice.result.now (subst (IsTextOf c.args.bytes.now) (sym c.as_slice.ensures) c.in-Ok.ensures.text)) c.blob_of.ensures.exact
+
+pub returns-in-Err-clause-fault : goal.returns-in-Err-clause-fault
+returns-in-Err-clause-fault c = c.in-Err.ensures.fault

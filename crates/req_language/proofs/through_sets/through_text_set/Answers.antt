@@ -4,9 +4,11 @@ use Rattle.req_grammar.specs.Readings.{IsSetText}
 use Rattle.req_ops.specs.SetEncoding.{IsPlainSet}
 use Rattle.dumped_text.specs.Dumped.{dumped_set}
 use Rattle.dumped_text.specs.Sets.{normal_set, IsSayableSet}
-use Rattle.req_language.specs.ThroughSets.{IsSetBlobOf}
+use Rattle.req_language.specs.Steps.{IsSetTextOf}
+use Rattle.req_language.specs.ThroughSets.{IsSetBlobOf, IsSetTextFault, IsThroughSetFault}
 use Rattle.req_language.specs.Promise.{SetComesBack}
-use Rattle.req_language.proofs.InTheWay.{if_ok_map}
+use Rattle.req_language.proofs.InTheWay.{if_ok_map, if_err_map}
+use Rattle.req_language.proofs.Refusals.{through_set_fault}
 use Rattle.req_language.proofs.through_sets.through_text_set.Goals as goal
 
 pub returns-in-Ok-clause-back : goal.returns-in-Ok-clause-back
@@ -30,3 +32,11 @@ returns-in-Ok-clause-only c set spelt short shallow =
 
 pub returns-in-Err-clause-only : goal.returns-in-Err-clause-only
 returns-in-Err-clause-only c set spelt short shallow = c.in-Err.ensures.only set spelt
+
+pub returns-in-Ok-clause-fault : goal.returns-in-Ok-clause-fault
+returns-in-Ok-clause-fault c =
+    if_err_map c.blob_of_set.result (IsSetTextFault c.as_slice.result.now) (IsThroughSetFault c.args.bytes.now)
+    (through_set_fault c.args.bytes.now c.as_slice.result.now (subst (IsSetTextOf c.args.bytes.now) (sym c.as_slice.ensures) c.in-Ok.ensures.text)) c.blob_of_set.ensures.exact
+
+pub returns-in-Err-clause-fault : goal.returns-in-Err-clause-fault
+returns-in-Err-clause-fault c = c.in-Err.ensures.fault

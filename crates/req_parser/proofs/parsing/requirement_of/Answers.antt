@@ -13,5 +13,6 @@ judged-requires-clause-few c = few_has (plains c.args.list.now) (sym c.has_few_o
 pub returns-in-Err : goal.returns-in-Err
 returns-in-Err c =
     rw c.fault_of.ensures
-    (reading_fails c.operands_are_read.ensures c.parentheses_balance.ensures.tree (plains c.args.list.now) c.in-Err.fault (few_has (plains c.args.list.now) (sym c.has_few_open.ensures ∙ c.if-not-has_few_open.false))
+    (reading_fails (record { operand = c.operands_stop_where_the_machine_does.ensures.operand; close = c.operands_stop_where_the_machine_does.ensures.close; even = c.ways_are_balanced.ensures })
+    c.operands_are_read.ensures c.parentheses_balance.ensures.tree (plains c.args.list.now) c.in-Err.fault (few_has (plains c.args.list.now) (sym c.has_few_open.ensures ∙ c.if-not-has_few_open.false))
     c.in-Err.ensures)
