@@ -1,12 +1,25 @@
 -- What follows of all that lines ask for; each is proved on a function of src/laws.rt. This project's own.
-use Rattle.std.specs.Prelude.{ℕ, List, All, Ok, ⊤}
+use Rattle.std.specs.Prelude.{◌≡◌, ℕ, ℤ, List, All, Option, Some, Ok, ⊤}
 use Rattle.policy_model.specs.Contents.{Content, Edit}
 use Rattle.policy_model.specs.Texts.{content_text}
 use Rattle.policy_model.specs.Tables.{Tables}
 use Rattle.policy_model.specs.History.{Event, tick, ask, offer, edit, edit_failed, edit_starved, look, tables_after}
 use Rattle.line_model.specs.Edits.{IsContentLine, IsEditLine}
-use Rattle.line_laws.specs.Limits.{AreBytes, FitsLine}
+use Rattle.line_model.specs.Words.{priority_word, expiry_word}
+use Rattle.line_laws.specs.Limits.{AreBytes, IsPriority, IsExpiry, FitsLine}
+use Rattle.store_model.specs.Raw.{RawTables}
+use Rattle.store_model.specs.Stored.{Holds}
+use Rattle.store_model.specs.Accepted.{Accepts}
 use Rattle.store_model.specs.Kept.{IsEdit, IsKept}
+use Rattle.store_model.specs.Again.{IsReadAgain}
+
+-- a priority that a word is read as is neither too great nor too small
+abbrev pub PriorityWordFits : Type 0
+PriorityWordFits = (word : List ℕ) (p : ℤ) → priority_word word ≡ Some p → IsPriority p
+
+-- an end that a word is read as is none, or a moment that a line can name
+abbrev pub ExpiryWordFits : Type 0
+ExpiryWordFits = (word : List ℕ) (expires : Option ℕ) → expiry_word word ≡ Some expires → IsExpiry expires
 
 -- what a text of bytes asks for fits a line
 abbrev pub AskedContentFits : Type 0
@@ -33,3 +46,8 @@ WasAsked look = ⊤
 -- a history of such events leaves tables that are stored in accepted rows
 abbrev pub AskedHistoriesStayKept : Type 0
 AskedHistoriesStayKept = (t : Tables) (h : List Event) → IsKept t → All WasAsked h → IsKept (tables_after h t)
+
+-- so a store that such events have led to from an accepted one is read again: its rows are accepted, and mean those tables alone
+abbrev pub AskedHistoriesAreReadAgain : Type 0
+AskedHistoriesAreReadAgain = (raw left : RawTables) (t : Tables) (h : List Event) → Accepts raw → Holds raw t → All WasAsked h
+    → Holds left (tables_after h t) → IsReadAgain left (tables_after h t)

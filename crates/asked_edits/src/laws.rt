@@ -1,9 +1,15 @@
 //! Laws over the definitions: functions that do nothing and whose contracts are the laws.
 
-ghost use Rattle.asked_edits.specs.Laws.{AskedContentFits, AskedEditFits, ReadContentReadsAgain, AskedHistoriesStayKept};
+ghost use Rattle.asked_edits.specs.Laws.{PriorityWordFits, ExpiryWordFits, AskedContentFits, AskedEditFits, ReadContentReadsAgain, AskedHistoriesStayKept, AskedHistoriesAreReadAgain};
 
 use line_laws::laws::contents_read_back;
-use store_model::laws::stored_tables;
+use store_model::laws::{stored_tables, stores_are_read_again};
+
+/// What words are read as is within its limits.
+pub fn words_that_are_read_fit()
+    ensures priority { PriorityWordFits }
+    ensures expiry { ExpiryWordFits }
+{}
 
 /// What a text or a line asks for fits a line.
 pub fn what_is_asked_fits()
@@ -25,4 +31,12 @@ pub fn asked_histories_stay_kept()
 {
     what_is_asked_fits();
     stored_tables();
+}
+
+/// Whatever edits lines have asked for, the store that they left is read again.
+pub fn asked_stores_are_read_again()
+    ensures { AskedHistoriesAreReadAgain }
+{
+    what_is_asked_fits();
+    stores_are_read_again();
 }

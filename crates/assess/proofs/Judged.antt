@@ -16,10 +16,10 @@ module _ (rows : List Row) (kind : Kind) (subject : Subject) (facts : Facts) (kn
       ap (λ x. outcome_by rows kind m x l) (eg ∙ sym (first_held false kind subject facts known m rows alike ranked same))
       ∙ ap (λ x. outcome_by rows kind m (first (meets false kind subject facts m) rows) x) (el ∙ sym (first_held true kind subject facts known m rows alike ranked same))
 
-  pub judged_governed : (r : Row) (o : Outcome) → Some r ≡ find (holds false m subject known) rows → ((rows : List Row) (kind : Kind) (m : ℕ) (l : Option Row) → o ≡ outcome_by rows kind m (Some r) l) → o ≡ outcome rows kind subject facts m
+  pub judged_governed : (r : Row) (o : Outcome) → Some r ≡ find (holds false m subject known) rows → ((l : Option Row) → o ≡ outcome_by rows kind m (Some r) l) → o ≡ outcome rows kind subject facts m
   judged_governed r o e h =
-      h rows kind m (find (holds true m subject known) rows)
+      h (find (holds true m subject known) rows)
       ∙ judged_by (Some r) (find (holds true m subject known) rows) e (λ i. find (holds true m subject known) rows)
 
-  pub judged_default : (l : Option Row) (o : Outcome) → None ≡ find (holds false m subject known) rows → l ≡ find (holds true m subject known) rows → ((rows : List Row) (kind : Kind) → o ≡ outcome_by rows kind m None l) → o ≡ outcome rows kind subject facts m
-  judged_default l o e el h = h rows kind ∙ judged_by None l e el
+  pub judged_default : (l : Option Row) (o : Outcome) → None ≡ find (holds false m subject known) rows → l ≡ find (holds true m subject known) rows → o ≡ outcome_by rows kind m None l → o ≡ outcome rows kind subject facts m
+  judged_default l o e el h = h ∙ judged_by None l e el

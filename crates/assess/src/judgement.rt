@@ -16,11 +16,12 @@ ghost use Rattle.rule_values.specs.Outcome.{outcome_of};
 ghost use Rattle.authority_table.specs.Snapshot.{IsByRank};
 ghost use Rattle.assess.specs.Tests.{holds, AllOfKind};
 
+use crate::deciding::{default_denial, governed};
+use authority_table::{default_until, governed_until};
 use fact_values::Facts;
-use policy_model::limits::DEFAULT_SECONDS;
 use req_eval::eval;
 use req_tree::Subject;
-use rule_values::{Kind, Label, Moment, Outcome, Rule};
+use rule_values::{Kind, Moment, Outcome, Rule};
 
 /// What the rules of a kind say of a subject at a moment, of whose hash these facts are known, or none.
 pub fn judge(
@@ -36,51 +37,11 @@ pub fn judge(
         → outcome_of result ≡ policy.outcome (rows_of rules.now) (kind_of kind) (subject_of subject.now) all at }
 {
     match first_rule(rules, false, subject, at, facts) {
-        Some(rule) => governed(rule),
-        None => default_denial(first_rule(rules, true, subject, at, facts), at),
-    }
-}
-
-/// The outcome that this rule decides.
-fn governed(rule: &Rule) -> Outcome
-    ensures { (rows : List Row) (kind : model.Kind) (m : ℕ) (latent : Option Row)
-        → outcome_of result ≡ policy.outcome_by rows kind m (Some (row_of rule.now)) latent }
-{
-    Outcome::Governed {
-        rank: rule.rank(),
-        allow: rule.allow,
-        label: rule.label.copied(),
-        until: rule.expires,
-        inhibit: rule.inhibit,
-    }
-}
-
-/// The outcome where no rule decides, and this one would, or none, were it enabled.
-fn default_denial(latent: Option<&Rule>, at: Moment) -> Outcome
-    ensures { (rows : List Row) (kind : model.Kind) → outcome_of result ≡ policy.outcome_by rows kind at None (row_found latent.entry) }
-{
-    let hold = at.get() + DEFAULT_SECONDS;
-    match latent {
-        None => Outcome::Default {
-            latent: None,
-            label: Label::holding(b"no matching rule"),
-            until: hold,
-        },
-        Some(rule) => Outcome::Default {
-            latent: Some(rule.id),
-            label: rule.label.copied(),
-            until: earlier(hold, rule.expires),
-        },
-    }
-}
-
-/// The lesser of a number of seconds and a moment, if there is one.
-fn earlier(seconds: u64, end: Option<Moment>) -> u64
-    ensures { result ≡ policy.at_most seconds end }
-{
-    match end {
-        None => seconds,
-        Some(end) => seconds.min(end.get()),
+        Some(rule) => governed(rule, governed_until(rule)),
+        None => {
+            let latent = first_rule(rules, true, subject, at, facts);
+            default_denial(latent, default_until(latent, at))
+        }
     }
 }
 

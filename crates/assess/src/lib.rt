@@ -2,8 +2,10 @@
 #![tactic(auto)]
 
 pub mod ask;
+mod deciding;
 mod judgement;
 pub mod laws;
 
 pub use ask::Ask;
+pub use deciding::decided_by;
 pub use judgement::judge;

@@ -1,4 +1,5 @@
 pub mod Found
+pub mod FirstRules
 pub mod Snapshot
 pub mod Touched
 pub mod Tally

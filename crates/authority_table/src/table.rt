@@ -10,6 +10,7 @@ ghost use Rattle.policy_model.specs.declared.limits.TheConstants.{MOST_RULES};
 ghost use Rattle.rule_values.specs.Kind.{kind_of};
 
 use crate::fault::PlanFault;
+use crate::first_rules::FirstRules;
 use crate::found::Found;
 use crate::prepared::{Prepared, Step};
 use crate::rules::Rules;
@@ -205,8 +206,8 @@ impl Table {
         Ok(rules)
     }
 
-    /// The rule that governs an assessment of the subject, of whose hash these facts are known, and the latent one:
-    /// one look at each rule.
+    /// The rule that governs an assessment of the subject, of whose hash these facts are known, the latent one, and
+    /// until when what they decide stands: one look at each rule.
     pub fn find(
         &self,
         kind: Kind,
@@ -217,14 +218,14 @@ impl Table {
         ensures { (all : f.Facts) → known_of all (subject_of subject.now).cdhash ≡ known_in facts.entry
             → IsFound (rows_of self.now) (kind_of kind) (subject_of subject.now) all at result }
     {
-        let mut found = Found {
+        let mut first = FirstRules {
             governing: None,
             latent: None,
         };
         for rule in &self.rules {
-            found = found.with_held(rule, kind, subject, facts, at);
+            first = first.with_held(rule, kind, subject, facts, at);
         }
-        found
+        first.found(at)
     }
 }
 

@@ -78,6 +78,30 @@ const ENDS: [Step; 8] = [
     Step::Live(260, 1),
 ];
 
+// What has ended makes room before it is said that there is none.
+#[rattlefmt::skip]
+const ROOM: [Step; 5] = [
+    Step::Offer(Execute, A, Decided::Default(60), 0, 0, false, Offered::Kept),
+    Step::Offer(Execute, B, Decided::Default(60), 0, 0, false, Offered::Kept),
+    Step::Offer(Install, A, Decided::Default(61), 0, 59, false, Offered::Full),
+    Step::Offer(Install, A, Decided::Default(61), 0, 60, false, Offered::Kept),
+    Step::Live(60, 1),
+];
+
+// Edits behind the rule that decided leave an outcome, and one that isn't behind it moves it.
+#[rattlefmt::skip]
+const BEHIND: [Step; 9] = [
+    Step::Purge(Execute, 5, 3),
+    Step::Purge(Install, 9, 4),
+    Step::Offer(Execute, A, Decided::Rule(5, 2, None), 0, 0, false, Offered::Kept),
+    Step::Offer(Execute, B, Decided::Rule(5, 3, None), 0, 0, false, Offered::Moved),
+    Step::Offer(Execute, B, Decided::Rule(5, 3, None), 1, 0, false, Offered::Kept),
+    Step::Purge(Execute, 6, 5),
+    Step::Offer(Execute, A, Decided::Rule(5, 2, None), 0, 0, false, Offered::Moved),
+    Step::Offer(Execute, A, Decided::Default(60), 1, 0, false, Offered::Moved),
+    Step::Offer(Execute, A, Decided::Default(60), 2, 0, false, Offered::Kept),
+];
+
 const NO_ROOM: [Step; 1] = [Step::Offer(
     Execute,
     A,
@@ -103,6 +127,18 @@ fn an_edit_drops_what_rests_on_it(rt: HostRuntime) -> Result<(), Fail> {
 #[test]
 fn a_default_is_kept_to_the_second(rt: HostRuntime) -> Result<(), Fail> {
     assert!(rt; taken(rt.alloc(), 1, &ENDS) == ENDS.len());
+    Ok(())
+}
+
+#[test]
+fn what_has_ended_makes_room(rt: HostRuntime) -> Result<(), Fail> {
+    assert!(rt; taken(rt.alloc(), 2, &ROOM) == ROOM.len());
+    Ok(())
+}
+
+#[test]
+fn edits_behind_the_rule_leave_an_outcome(rt: HostRuntime) -> Result<(), Fail> {
+    assert!(rt; taken(rt.alloc(), 3, &BEHIND) == BEHIND.len());
     Ok(())
 }
 

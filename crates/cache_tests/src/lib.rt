@@ -4,6 +4,8 @@
 #[cfg(test)]
 mod kept;
 #[cfg(test)]
+mod late;
+#[cfg(test)]
 mod room;
 #[cfg(test)]
 mod steps;

@@ -29,7 +29,7 @@ fn fate(objects: &mut Objects, number: u32, since: u64, now: u64) -> Option<Offe
             until: 60,
         },
     };
-    objects.offer(&entry, since, Moment::of(now)?, false).ok()
+    Some(objects.offer(&entry, since, Moment::of(now)?, false))
 }
 
 // how many of the offers of different code are kept, up to the first that isn't
@@ -50,7 +50,7 @@ fn first_rank() -> Option<Rank> {
 
 // Filled to the last entry, it keeps no other until an edit has dropped some.
 fn fills_and_empties(alloc: Global) -> Option<bool> {
-    let mut objects = Objects::new(alloc, MOST_ENTRIES);
+    let mut objects = Objects::with_room(alloc, MOST_ENTRIES).ok()?;
     let kept = kept_in_turn(&mut objects, 16_384);
     let live = objects.live(Moment::of(59)?);
     let one_more = fate(&mut objects, 16_384, 0, 0)?;

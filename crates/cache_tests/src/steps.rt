@@ -85,7 +85,7 @@ pub fn takes(objects: &mut Objects, step: &Step) -> Option<bool> {
         Step::Offer(kind, identifier, decided, since, now, inhibit, wanted) => {
             let entry = entry(kind, identifier, decided)?;
             let now = Moment::of(now)?;
-            Some(objects.offer(&entry, since, now, inhibit).ok()? == wanted)
+            Some(objects.offer(&entry, since, now, inhibit) == wanted)
         }
         Step::Find(kind, identifier, now, wanted) => {
             let subject = subject(identifier)?;

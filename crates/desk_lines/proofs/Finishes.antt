@@ -1,12 +1,13 @@
 -- What finishing an assessment replies and leaves, by what was held of it.
-use Rattle.std.proofs.Common.{◌≡◌, ◌≢◌, ◌<◌, ◌==◌, arith, Result, Ok, Err, OnOk, is_ok, is_some, IfSome, ℕ, List, [], ◌∷◌, ◌++◌, length, take, Bool, true, false, Option, Some, None, option_map, if◌then◌else◌, refl, ◌∙◌, ap}
-use Rattle.std.specs.List.{find, filter, list_any}
+use Rattle.std.proofs.Common.{◌≡◌, ◌≢◌, ◌<◌, ◌==◌, arith, is_some, IfSome, ℕ, List, [], ◌∷◌, ◌++◌, length, take, Bool, true, false, Option, Some, None, option_map, if◌then◌else◌, refl, ◌∙◌, ap}
+use Rattle.std.specs.List.{find, list_any}
 use Rattle.req_tree.specs.Subject.{Subject}
 use Rattle.policy_model.specs.Rules.{Kind}
 use Rattle.policy_model.specs.Outcomes.{Ask, Verdict}
 use Rattle.policy_model.specs.History.{Event, ask, offer, Opening, Entry, ask_answer}
 use Rattle.policy_model.specs.ReplyTexts.{rules, cache, verdict_text}
-use Rattle.object_model.specs.Objects.{is_for, is_unexpired, Offered}
+use Rattle.object_model.specs.Objects.{is_for, Offered}
+use Rattle.object_model.specs.Plain.{Plain}
 use Rattle.object_model.specs.Kept.{objects_of, decision_of}
 use Rattle.object_model.specs.Origins.{origin_with, fate_of}
 use Rattle.object_model.specs.Tickets.{Ticket, ticket_ask, IsTicketOf}
@@ -60,12 +61,12 @@ kept_answer : (f : Entry → Verdict) (m : Option Entry) (x : Answer) → option
 kept_answer f None x is by = cc
 kept_answer f (Some e) x is by = cc
 
-not_by_rules : (d : Opening) (kind : Kind) (subject : Option Subject) (x : Answer) → known_on d kind subject ≡ Some x → x.1 ≢ rules
+not_by_rules : (d : Plain) (kind : Kind) (subject : Option Subject) (x : Answer) → known_on d kind subject ≡ Some x → x.1 ≢ rules
 not_by_rules d kind None x is by = cc
-not_by_rules d kind (Some s) x is by = kept_answer _ (find (is_for kind s) (filter (is_unexpired d.now) d.entries)) x is by
+not_by_rules d kind (Some s) x is by = kept_answer _ (find (is_for kind s) d.entries) x is by
 
 -- what begins now is held as of its place
-pub held_now : (d o : Opening) (h : List Event) (a : Ask) (l : Looked) → IsLooked d a l → LooksAfter o h a l → IsHeld o (h ++ ask a ∷ []) (length h) a l
+pub held_now : (d : Plain) (o : Opening) (h : List Event) (a : Ask) (l : Looked) → IsLooked d a l → LooksAfter o h a l → IsHeld o (h ++ ask a ∷ []) (length h) a l
 held_now d o h a (Known v) looked after =
     let same : take (length h) (h ++ ask a ∷ []) ≡ h = take_last h (ask a) in
     rw same (after.0, after.1, not_by_rules d a.kind a.subject (verdict_of v, origin_of v.origin) looked)
@@ -95,14 +96,6 @@ pub left_open : (o : Opening) (h : List Event) (m n : ℕ) (c : OpenSlot) (cs : 
     → AreOpen o (with_offer f t.slot.place h) m (but_first (λ d. d.number == n) cs) (but_first (has_number n) ss)
 left_open o h m n c cs ss t None = t.rest
 left_open o h m n c cs ss t (Some f) = t.after
-
-pub when_ok : {A E : Type 0} (r : Result A E) (P : Type 0) → (is_ok r ≡ true → P) → OnOk r P
-when_ok (Ok v) P f = f refl
-when_ok (Err e) P f = tt
-
-pub get_ok : {A E : Type 0} (r : Result A E) (P : Type 0) → OnOk r P → is_ok r ≡ true → P
-get_ok (Ok v) P p ok = p
-get_ok (Err e) P p ok = cc
 
 pub given_is : (r : Option policy_tables.Answer) (x : policy_tables.Answer) → is_some r ≡ true → IfSome r (λ a. a ≡ x) → given_text r ≡ answer_text x
 given_is None x some is = cc

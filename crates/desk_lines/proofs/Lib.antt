@@ -7,3 +7,4 @@ mod Faults
 mod AsksEdits
 mod OneLineMore
 mod Alone
+mod TakesNone

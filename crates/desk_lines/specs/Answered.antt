@@ -1,5 +1,5 @@
 -- What a desk that answers lines has answered. This project's own.
-use Rattle.std.specs.Prelude.{◌≡◌, ℕ, false, List, [], Bool, Result}
+use Rattle.std.specs.Prelude.{◌≡◌, ℕ, List, [], Result}
 use Rattle.policy_model.specs.History.{Opening}
 use Rattle.line_model.specs.LineFaults.{LineFault}
 use Rattle.session_model.specs.Lines.{Request}
@@ -22,15 +22,15 @@ HasAnswered start now before counted lines replies =
     (o : Opening) (s : State) → BeginsAt start o s
     → (after : State) × Session o s lines replies after × Stands now o after.history × Shows s.history after.history before counted
 
--- the desk and what is open stand for a state; once an assessment is lost, as memory ran out, nothing is said of what is open
-abbrev pub IsAt : Desk → List OpenSlot → Bool → Opening → State → Type 0
-IsAt d slots lost o s = Stands d o s.history × (lost ≡ false → AreOpen o s.history 0 slots s.slots)
+-- the desk and what is open stand for a state
+abbrev pub IsAt : Desk → List OpenSlot → Opening → State → Type 0
+IsAt d slots o s = Stands d o s.history × AreOpen o s.history 0 slots s.slots
 
 -- the same as HasAnswered, and what is open stands for the state that was reached
-abbrev pub HasAnsweredSo : Desk → Desk → List OpenSlot → Bool → ℕ → ℕ → List (List ℕ) → List (List ℕ) → Type 0
-HasAnsweredSo start now slots lost before counted lines replies =
+abbrev pub HasAnsweredSo : Desk → Desk → List OpenSlot → ℕ → ℕ → List (List ℕ) → List (List ℕ) → Type 0
+HasAnsweredSo start now slots before counted lines replies =
     (o : Opening) (s : State) → BeginsAt start o s
-    → (after : State) × Session o s lines replies after × IsAt now slots lost o after × Shows s.history after.history before counted
+    → (after : State) × Session o s lines replies after × IsAt now slots o after × Shows s.history after.history before counted
 
 -- from old to new the desk replied to what a line asks for, or to its fault, whatever its state had been
 abbrev pub HasReplied : Desk → List OpenSlot → Desk → List OpenSlot → ℕ → ℕ → Result Request LineFault → List ℕ → Type 0

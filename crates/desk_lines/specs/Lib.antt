@@ -1,3 +1,4 @@
 pub mod Slots
 pub mod Answered
 pub mod Requests
+pub mod Memory

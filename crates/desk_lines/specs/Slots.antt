@@ -5,6 +5,7 @@ use Rattle.policy_model.specs.ReplyTexts.{rules}
 use Rattle.policy_model.specs.History.{Event, Opening, ask, ask_answer}
 use Rattle.object_model.specs.Kept.{objects_of}
 use Rattle.object_model.specs.Origins.{origin_with}
+use Rattle.object_model.specs.Plain.{Plain}
 use Rattle.session_model.specs.Slots.{Slot}
 use Rattle.desk_state.specs.Verdict.{verdict_of, origin_of}
 use Rattle.desk_state.specs.Judged.{IsJudgedAt, IsLookedOfDesk}
@@ -33,5 +34,5 @@ AreOpen o h m [] (s ∷ ss) = ⊥
 AreOpen o h m (c ∷ cs) [] = ⊥
 
 -- what was judged of each that is open is of a desk that holds this
-abbrev pub AreOfDesk : Opening → List OpenSlot → Type 0
+abbrev pub AreOfDesk : Plain → List OpenSlot → Type 0
 AreOfDesk d slots = All (λ c. IsLookedOfDesk d c.looked) slots

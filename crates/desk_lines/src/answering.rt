@@ -2,13 +2,11 @@
 
 ghost use Rattle.std.specs.Prelude.{◌≡◌, ◌≤◌, [], ℕ, List, length, Ok, OnOk, OnErr};
 ghost use Rattle.line_text.specs.LineText.{line_bytes};
-ghost use Rattle.policy_model.specs.History.{Opening};
-ghost use Rattle.session_model.specs.Slots.{State};
 ghost use Rattle.session_model.specs.Lines as model;
 ghost use Rattle.line_session.specs.declared.limits.TheConstants.{REPLY_LIMIT};
 ghost use Rattle.assess.specs.Ask.{ask_of};
 ghost use Rattle.object_model.specs.OfDesk.{KeepsOf};
-ghost use Rattle.desk_state.specs.Stands.{tables, plain, Stands};
+ghost use Rattle.desk_state.specs.Stands.{tables, plain};
 ghost use Rattle.desk_lines.specs.declared.slots.OpenSlot as code;
 ghost use Rattle.desk_lines.specs.Answered.{HasReplied, BeginsAnew};
 ghost use Rattle.desk_lines.specs.Slots.{AreOfDesk};
@@ -47,18 +45,16 @@ pub fn status(desk: &Desk, out: &mut LineText)
     status_into(&standing, out);
 }
 
-pub fn assess(desk: &mut Desk, ask: &Ask, out: &mut LineText) -> Result<(), AllocError>
+pub fn assess(desk: &mut Desk, ask: &Ask, out: &mut LineText)
     requires { line_bytes out.old ≡ [] }
     ensures tables { tables desk.new ≡ tables desk.old }
     ensures of_desk { KeepsOf (plain desk.old) (plain desk.new) }
     ensures room { length (line_bytes out.new) ≤ REPLY_LIMIT }
-    ensures replies { OnOk result
-        ((held : List code.OpenSlot) (n : ℕ) → HasReplied desk.old held desk.new held n n (Ok (model.assess (ask_of ask.now))) (line_bytes out.new)) }
-    ensures refuses { OnErr result ((o : Opening) (s : State) → Stands desk.old o s.history → Stands desk.new o s.history) }
+    ensures replies { (held : List code.OpenSlot) (n : ℕ) → HasReplied desk.old held desk.new held n n (Ok (model.assess (ask_of ask.now))) (line_bytes out.new) }
 {
     a_ticket_is_enough();
     let looked = desk.judge(ask);
-    finish(desk, looked, out)
+    finish(desk, looked, out);
 }
 
 pub fn begin(
@@ -110,27 +106,17 @@ fn begin_now(
     Ok(())
 }
 
-pub fn finish_number(
-    desk: &mut Desk,
-    slots: &mut Vec<OpenSlot>,
-    number: u32,
-    out: &mut LineText,
-) -> Result<(), AllocError>
+pub fn finish_number(desk: &mut Desk, slots: &mut Vec<OpenSlot>, number: u32, out: &mut LineText)
     requires text { line_bytes out.old ≡ [] }
     requires of_desk { AreOfDesk (plain desk.old) slots.old.items }
     ensures tables { tables desk.new ≡ tables desk.old }
     ensures of_desk { AreOfDesk (plain desk.new) slots.new.items }
     ensures room { length (line_bytes out.new) ≤ REPLY_LIMIT }
-    ensures replies { OnOk result
-        ((n : ℕ) → HasReplied desk.old slots.old.items desk.new slots.new.items n n (Ok (model.finish number)) (line_bytes out.new)) }
-    ensures refuses { OnErr result ((o : Opening) (s : State) → Stands desk.old o s.history → Stands desk.new o s.history) }
+    ensures replies { (n : ℕ) → HasReplied desk.old slots.old.items desk.new slots.new.items n n (Ok (model.finish number)) (line_bytes out.new) }
 {
     a_ticket_is_enough();
     match take_slot(slots, number) {
-        None => {
-            out.push_all(b"refused session 22 SlotEmpty");
-            Ok(())
-        }
+        None => out.push_all(b"refused session 22 SlotEmpty"),
         Some(slot) => finish(desk, slot.looked, out),
     }
 }

@@ -4,7 +4,6 @@ ghost use Rattle.std.specs.Prelude.{◌≡◌, ◌≢◌, ◌↔◌, ◌≤◌, 
 ghost use Rattle.line_text.specs.LineText.{line_bytes};
 ghost use Rattle.policy_model.specs.History.{Opening};
 ghost use Rattle.session_model.specs.Slots.{State};
-ghost use Rattle.session_model.specs.Lines as model;
 ghost use Rattle.line_session.specs.declared.limits.TheConstants.{REPLY_LIMIT};
 ghost use Rattle.line_words.specs.Faults.{fault_of};
 ghost use Rattle.line_words.specs.declared.fault.LineFault.TheVariants.{OutOfMemory};
@@ -27,29 +26,26 @@ pub struct DeskLines<'a, K: Keeper> {
     pub desk: &'a mut Desk,
     pub keeper: &'a mut K,
     pub slots: &'a mut Vec<OpenSlot>,
-    /// An assessment was lost, as there was no memory to finish it: no line is answered any more.
-    pub lost: bool,
 }
 
 impl<K: Keeper> Responder for DeskLines<'_, K> {
-    ghost use Rattle.std.specs.Prelude.{false};
     ghost use Rattle.policy_keeper.specs.Mirror.{Mirrors};
     ghost use Rattle.desk_state.specs.Stands.{tables, plain};
     ghost use Rattle.desk_lines.specs.Slots.{AreOfDesk};
     ghost use Rattle.desk_lines.specs.Answered.{HasAnsweredSo};
+    ghost use Rattle.desk_lines.specs.Memory.{TakesMemory};
     ghost use Rattle.desk_state.specs.Failures.{Keeps};
 
-    ghost answered = { λ begin lines texts replies. HasAnsweredSo begin.desk.now lines.desk.now lines.slots.now.items lines.lost (K.faults begin.keeper.now) (K.faults lines.keeper.now) texts replies
+    ghost answered = { λ begin lines texts replies. HasAnsweredSo begin.desk.now lines.desk.now lines.slots.now.items (K.faults begin.keeper.now) (K.faults lines.keeper.now) texts replies
         × Keeps (K.told begin.keeper.now) (K.told lines.keeper.now) (K.faults begin.keeper.now) (K.faults lines.keeper.now)
         × (lines.desk.ghost_name ≡ begin.desk.ghost_name) × (lines.keeper.ghost_name ≡ begin.keeper.ghost_name) };
 
     ghost ready = { λ lines. Mirrors (K.told lines.keeper.now) (tables lines.desk.now) × AreOfDesk (plain lines.desk.now) lines.slots.now.items };
 
+    ghost takes_memory = { TakesMemory };
+
     fn answer(&mut self, alloc: Global, line: &[u8], out: &mut LineText) -> Result<(), AllocError> {
         the_front_asks_the_same();
-        if self.lost {
-            return Err(AllocError);
-        }
         match read_request(alloc, line) {
             Ok(request) => self.reply(alloc, request, out),
             Err(fault) => self.refuse(fault, out),
@@ -58,12 +54,12 @@ impl<K: Keeper> Responder for DeskLines<'_, K> {
 }
 
 impl<'a, K: Keeper> DeskLines<'a, K> {
-    ghost use Rattle.std.specs.Prelude.{false};
     ghost use Rattle.policy_keeper.specs.Mirror.{Mirrors};
     ghost use Rattle.desk_state.specs.Stands.{tables, plain};
     ghost use Rattle.desk_lines.specs.Slots.{AreOfDesk};
     ghost use Rattle.desk_lines.specs.Answered.{HasReplied, IsAt};
     ghost use Rattle.desk_state.specs.Failures.{Keeps};
+    ghost use Rattle.desk_lines.specs.Memory.{TakesRoom};
     ghost use Rattle.desk_lines.specs.Requests.{request_view};
 
     pub fn over(
@@ -82,7 +78,6 @@ impl<'a, K: Keeper> DeskLines<'a, K> {
             desk,
             keeper,
             slots,
-            lost: false,
         }
     }
 
@@ -93,7 +88,6 @@ impl<'a, K: Keeper> DeskLines<'a, K> {
         out: &mut LineText,
     ) -> Result<(), AllocError>
         requires text { line_bytes out.old ≡ [] }
-        requires whole { self.old.lost ≡ false }
         requires mirrors { Mirrors (K.told self.old.keeper.now) (tables self.old.desk.now) }
         requires of_desk { AreOfDesk (plain self.old.desk.now) self.old.slots.now.items }
         ensures mirrors { Mirrors (K.told self.new.keeper.now) (tables self.new.desk.now) }
@@ -102,11 +96,12 @@ impl<'a, K: Keeper> DeskLines<'a, K> {
         ensures name { self.new.desk.ghost_name ≡ self.old.desk.ghost_name }
         ensures keeper_name { self.new.keeper.ghost_name ≡ self.old.keeper.ghost_name }
         ensures room { length (line_bytes out.new) ≤ REPLY_LIMIT }
-        ensures replies { OnOk result ((self.new.lost ≡ false)
-            × HasReplied self.old.desk.now self.old.slots.now.items self.new.desk.now self.new.slots.now.items (K.faults self.old.keeper.now) (K.faults self.new.keeper.now) (Ok (request_view request)) (line_bytes out.new)) }
+        ensures replies { OnOk result
+            (HasReplied self.old.desk.now self.old.slots.now.items self.new.desk.now self.new.slots.now.items (K.faults self.old.keeper.now) (K.faults self.new.keeper.now) (Ok (request_view request)) (line_bytes out.new)) }
         ensures refuses { OnErr result
-            (((o : Opening) (s : State) → IsAt self.old.desk.now self.old.slots.now.items false o s → IsAt self.new.desk.now self.new.slots.now.items self.new.lost o s)
+            (((o : Opening) (s : State) → IsAt self.old.desk.now self.old.slots.now.items o s → IsAt self.new.desk.now self.new.slots.now.items o s)
             × (K.faults self.new.keeper.now ≡ K.faults self.old.keeper.now)) }
+        ensures memory { OnErr result (TakesRoom request) }
     {
         match request {
             Request::Edit(edit) => make(self.desk, self.keeper, alloc, &edit, out),
@@ -114,33 +109,20 @@ impl<'a, K: Keeper> DeskLines<'a, K> {
                 tick(self.desk, at, out);
                 Ok(())
             }
-            Request::Assess(ask) => assess(self.desk, &ask, out),
+            Request::Assess(ask) => {
+                assess(self.desk, &ask, out);
+                Ok(())
+            }
             Request::Begin(number, ask) => begin(self.desk, self.slots, number, &ask, out),
-            Request::Finish(number) => self.finish(number, out),
+            Request::Finish(number) => {
+                finish_number(self.desk, self.slots, number, out);
+                Ok(())
+            }
             Request::Status => {
                 status(self.desk, out);
                 Ok(())
             }
         }
-    }
-
-    fn finish(&mut self, number: u32, out: &mut LineText) -> Result<(), AllocError>
-        requires text { line_bytes out.old ≡ [] }
-        requires of_desk { AreOfDesk (plain self.old.desk.now) self.old.slots.now.items }
-        ensures tables { tables self.new.desk.now ≡ tables self.old.desk.now }
-        ensures of_desk { AreOfDesk (plain self.new.desk.now) self.new.slots.now.items }
-        ensures keeper { self.new.keeper.now ≡ self.old.keeper.now }
-        ensures name { self.new.desk.ghost_name ≡ self.old.desk.ghost_name }
-        ensures keeper_name { self.new.keeper.ghost_name ≡ self.old.keeper.ghost_name }
-        ensures room { length (line_bytes out.new) ≤ REPLY_LIMIT }
-        ensures replies { OnOk result ((self.new.lost ≡ false)
-            × ((n : ℕ) → HasReplied self.old.desk.now self.old.slots.now.items self.new.desk.now self.new.slots.now.items n n (Ok (model.finish number)) (line_bytes out.new))) }
-        ensures refuses { OnErr result
-            ((o : Opening) (s : State) → IsAt self.old.desk.now self.old.slots.now.items false o s → IsAt self.new.desk.now self.new.slots.now.items self.new.lost o s) }
-    {
-        let done = finish_number(self.desk, self.slots, number, out);
-        self.lost = done.is_err();
-        done
     }
 
     /// The refusal of a line; none where memory ran out.
@@ -149,6 +131,7 @@ impl<'a, K: Keeper> DeskLines<'a, K> {
         ensures room { length (line_bytes out.new) ≤ REPLY_LIMIT }
         ensures replies { OnOk result ((fault ≢ OutOfMemory)
             × ((n : ℕ) → HasReplied self.now.desk.now self.now.slots.now.items self.now.desk.now self.now.slots.now.items n n (Err (fault_of fault)) (line_bytes out.new))) }
+        ensures memory { OnErr result (fault ≡ OutOfMemory) }
     {
         if is_out_of_memory(&fault) {
             return Err(AllocError);

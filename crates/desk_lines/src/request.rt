@@ -1,12 +1,13 @@
 //! What a line of a session asks for.
 
-ghost use Rattle.std.specs.Prelude.{◌≡◌, Bool, ℕ};
+ghost use Rattle.std.specs.Prelude.{◌≡◌, Bool, ℕ, MatchResult};
 ghost use Rattle.session_model.specs.Lines as model;
 ghost use Rattle.session_model.specs.Lines.{lined, lined_at, tick_at, keep_at, ask_at, begin_at, finish_at, slot_at, slot_word, as_lined};
 ghost use Rattle.policy_model.specs.Outcomes as policy;
 ghost use Rattle.line_model.specs.Edits.{edit_at};
 ghost use Rattle.line_words.specs.Left.{left, Gives, Takes};
 ghost use Rattle.assess.specs.Ask.{ask_of};
+ghost use Rattle.desk_lines.specs.Memory.{MayTake, TakesMemory, TakesRoom};
 ghost use Rattle.desk_lines.specs.Requests.{Tells};
 
 use assess::Ask;
@@ -30,7 +31,8 @@ pub enum Request {
 
 /// What the line asks for. A longer line than may be is refused in the first column past the limit.
 pub fn read_request(alloc: Global, line: &[u8]) -> Result<Request, LineFault>
-    ensures { Tells result (lined line.now) }
+    ensures tells { Tells result (lined line.now) }
+    ensures memory { MatchResult result (λ request. TakesRoom request → TakesMemory line.now) (λ fault. fault ≡ LineFault.OutOfMemory → TakesMemory line.now) }
 {
     if line.len() <= LINE_LIMIT {
         read_form(alloc, &mut Cursor::of(line))
@@ -43,7 +45,8 @@ pub fn read_request(alloc: Global, line: &[u8]) -> Result<Request, LineFault>
 
 /// A line by its first word.
 fn read_form(alloc: Global, words: &mut Cursor) -> Result<Request, LineFault>
-    ensures { Tells result (lined_at (left words.old)) }
+    ensures tells { Tells result (lined_at (left words.old)) }
+    ensures memory { MatchResult result (λ request. TakesRoom request → MayTake (left words.old).words) (λ fault. fault ≡ LineFault.OutOfMemory → MayTake (left words.old).words) }
 {
     let form = words.next()?;
     if form == b"tick".as_slice() {

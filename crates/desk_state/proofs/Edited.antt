@@ -10,7 +10,8 @@ use Rattle.policy_model.specs.Changes.{rows_after, touched_by}
 use Rattle.policy_model.specs.Refusals.{refusal}
 use Rattle.policy_model.specs.Edits.{does, does_at, at_new, at_kept, kept}
 use Rattle.policy_model.specs.History.{Event, edit, Opening, edit_answer}
-use Rattle.object_model.specs.DropLaws.{MarksPurge}
+use Rattle.object_model.specs.DropLaws.{MarksPurge, RingsPurge}
+use Rattle.object_model.specs.Plain.{Plain}
 use Rattle.object_model.specs.Stands as model
 use Rattle.object_model.specs.StandsLaws.{EditStands}
 use Rattle.store_model.specs.Change.{Change, Takes}
@@ -24,7 +25,7 @@ use Rattle.desk_state.specs.declared.answer.Answer as code
 use Rattle.desk_state.specs.declared.fault.EditFault.{EditFault}
 use Rattle.desk_state.specs.declared.ready.Ready.{Ready}
 use Rattle.desk_state.specs.Answer.{answer_of, given, IsDone}
-use Rattle.desk_state.specs.Cache.{Cache, IsPurged, edited_cache, purged_so}
+use Rattle.desk_state.specs.Cache.{Cache, cache_at, IsPurged, edited_cache, purged_so}
 use Rattle.desk_state.specs.Plan.{Leaves, count_in, rows_by, with_plan, carried_out}
 use Rattle.desk_state.specs.declared.plan.Plan.{Plan}
 use Rattle.edit_receipts.specs.declared.receipts.Receipt as code_receipt
@@ -74,24 +75,20 @@ refused_wanting : (r : Option Answer) (e : Edit) (t : Tables) → IsNone r → I
 refused_wanting None e t none = tt
 refused_wanting (Some a) e t none = absurd (both_ways true none refl)
 
-pub refused_edited : MarksPurge → (d : Opening) (e : Edit) (r : Option Answer) → kept d.tables.receipts e.key ≡ None → r ≡ refusal e.content d.tables → IsEdited e d d r
-refused_edited marks d e r unkept is =
+pub refused_edited : MarksPurge → RingsPurge → (d : Plain) (e : Edit) (r : Option Answer) → kept d.tables.receipts e.key ≡ None → r ≡ refusal e.content d.tables → IsEdited e d d r
+refused_edited marks rings d e r unkept is =
     let t = d.tables in
     let effect : at_new r e t ≡ does t e = ap (λ x. at_new x e t) is ∙ new_does t e (sym unkept) in
     record {
       done = subst (λ x. IsDone x t t r) effect (refused_done r e t);
-      cache = new_so t e (d.entries, d.counts) (d.entries, d.counts) r (sym unkept) (refused_purges marks r e t (d.entries, d.counts) is);
+      cache = new_so t e (cache_at d) (cache_at d) r (sym unkept) (refused_purges marks rings r e t (cache_at d) is);
       moment = refl;
       facts = refl;
       wanting = λ none. subst (λ (x : Effect). IsAccepted x.answer) effect (refused_wanting r e t none);
     }
 
--- what a desk keeps of assessments
-abbrev pub cache_at : Opening → Cache
-cache_at d = (d.entries, d.counts)
-
 -- an edit that was made
-pub made_edited : (old new : Opening) (e : Edit) (a : Answer) → kept old.tables.receipts e.key ≡ None → refusal e.content old.tables ≡ None →
+pub made_edited : (old new : Plain) (e : Edit) (a : Answer) → kept old.tables.receipts e.key ≡ None → refusal e.content old.tables ≡ None →
     a ≡ (does old.tables e).answer → new.tables ≡ (at_new None e old.tables).tables → cache_at new ≡ edited_cache (at_new None e old.tables).touched (cache_at old) →
     new.now ≡ old.now → new.facts ≡ old.facts → IsEdited e old new (Some a)
 made_edited old new e a unkept accepted answered tables cache now facts =
@@ -99,14 +96,14 @@ made_edited old new e a unkept accepted answered tables cache now facts =
     let effect = accepted_does t e unkept accepted in
     record {
       done = (answered, tables ∙ ap (λ x. x.tables) (sym effect));
-      cache = cache ∙ ap (λ x. edited_cache x.touched (old.entries, old.counts)) (sym effect);
+      cache = cache ∙ ap (λ x. edited_cache x.touched (cache_at old)) (sym effect);
       moment = now;
       facts = facts;
       wanting = λ none. absurd (both_ways true none refl);
     }
 
 -- an edit that would have been accepted, and wasn't made
-pub starved_edited : (old new : Opening) (e : Edit) → kept old.tables.receipts e.key ≡ None → refusal e.content old.tables ≡ None →
+pub starved_edited : (old new : Plain) (e : Edit) → kept old.tables.receipts e.key ≡ None → refusal e.content old.tables ≡ None →
     new.tables ≡ old.tables → cache_at new ≡ cache_at old → new.now ≡ old.now → new.facts ≡ old.facts → IsEdited e old new None
 starved_edited old new e unkept accepted tables cache now facts = record {
   done = tables;
@@ -117,12 +114,12 @@ starved_edited old new e unkept accepted tables cache now facts = record {
 }
 
 -- an edit under a key that is kept
-pub kept_edited : MarksPurge → (d : Opening) (e : Edit) (r : Receipt) (g : Option Answer) → Some r ≡ kept d.tables.receipts e.key → g ≡ Some (at_kept r e) → IsEdited e d d g
-kept_edited marks d e r g is answered =
+pub kept_edited : MarksPurge → RingsPurge → (d : Plain) (e : Edit) (r : Receipt) (g : Option Answer) → Some r ≡ kept d.tables.receipts e.key → g ≡ Some (at_kept r e) → IsEdited e d d g
+kept_edited marks rings d e r g is answered =
     let t = d.tables in
     subst (IsEdited e d d) (sym answered) (record {
       done = (ap (λ k. (does_at k e t).answer) is, kept_same t e r is);
-      cache = kept_so marks t e r (d.entries, d.counts) (Some (at_kept r e)) is;
+      cache = kept_so marks rings t e r (cache_at d) (Some (at_kept r e)) is;
       moment = refl;
       facts = refl;
       wanting = λ none. absurd (both_ways true none refl);
@@ -134,7 +131,7 @@ given_answer : (effect : Effect) (old new : Tables) (g : Option Answer) → IsDo
 given_answer effect old new None is = tt
 given_answer effect old new (Some a) is = is.0
 
-pub legal_edited : (d new o : Opening) (h : List Event) (e : Edit) (g : Option Answer) → IsEdited e d new g → model.Stands d o h → IfSome g (λ a. a ≡ edit_answer o h e)
+pub legal_edited : (d new : Plain) (o : Opening) (h : List Event) (e : Edit) (g : Option Answer) → IsEdited e d new g → model.Stands d o h → IfSome g (λ a. a ≡ edit_answer o h e)
 legal_edited d new o h e g is s =
     subst (λ t. IfSome g (λ a. a ≡ (does t e).answer)) s.tables_are (given_answer (does d.tables e) d.tables new.tables g is.done)
 
@@ -142,7 +139,7 @@ given_tables : (effect : Effect) (old new : Tables) (g : Option Answer) → IsSo
 given_tables effect old new None some is = absurd (both_ways false refl some)
 given_tables effect old new (Some a) some is = is.1
 
-pub stands_edited : EditStands → (d new o : Opening) (h : List Event) (e : Edit) (g : Option Answer) → IsEdited e d new g → IsSome g → model.Stands d o h → model.Stands new o (h ++ edit e ∷ [])
+pub stands_edited : EditStands → (d new : Plain) (o : Opening) (h : List Event) (e : Edit) (g : Option Answer) → IsEdited e d new g → IsSome g → model.Stands d o h → model.Stands new o (h ++ edit e ∷ [])
 stands_edited stands d new o h e g is some s =
     subst (λ x. model.Stands x o (h ++ edit e ∷ [])) (sym (whole_edited d new e g some (given_tables (does d.tables e) d.tables new.tables g some is.done) is.facts is.moment is.cache)) (stands d o h e s)
 
@@ -155,11 +152,11 @@ not_given_cache effect old new None none is = is
 not_given_cache effect old new (Some a) none is = absurd (both_ways true none refl)
 
 -- where nothing was answered the desk is as before
-pub same_unedited : (d new : Opening) (e : Edit) (g : Option Answer) → IsEdited e d new g → IsNone g → new ≡ d
+pub same_unedited : (d new : Plain) (e : Edit) (g : Option Answer) → IsEdited e d new g → IsNone g → new ≡ d
 same_unedited d new e g is none =
-    parts_are new.tables d.tables new.facts d.facts new.now d.now (new.entries, new.counts) (d.entries, d.counts)
+    parts_are new.tables d.tables new.facts d.facts new.now d.now (cache_at new) (cache_at d)
     (not_given_tables (does d.tables e) d.tables new.tables g none is.done) is.facts is.moment
-    (not_given_cache (does d.tables e) (d.entries, d.counts) (new.entries, new.counts) g none is.cache)
+    (not_given_cache (does d.tables e) (cache_at d) (cache_at new) g none is.cache)
 
 -- an edit that is ready
 
@@ -178,18 +175,18 @@ pub ready_takes : (t : Tables) (e : Edit) (ready : Ready) → kept t.receipts e.
 ready_takes t e ready unkept is = takes_change t e ready.plan.rows (change_of ready.change) unkept is.accepted is.planned.rows_are is.change_is
 
 -- after it was to be carried out
-pub carried_edited : MarksPurge → (old new : Opening) (e : Edit) (ready : Ready) → kept old.tables.receipts e.key ≡ None → IsReadyFor ready e old.tables → (r : Result code.Answer EditFault) →
+pub carried_edited : MarksPurge → RingsPurge → (old new : Plain) (e : Edit) (ready : Ready) → kept old.tables.receipts e.key ≡ None → IsReadyFor ready e old.tables → (r : Result code.Answer EditFault) →
     IfOk r (λ a. answer_of a ≡ done (change_of ready.change).number (change_of ready.change).touched) → OnErr r (given r ≡ None) →
     new.tables ≡ carried_out r ready.plan ready.receipt old.tables → cache_at new ≡ purged_so r ready.plan.rows (cache_at old) → new.now ≡ old.now → new.facts ≡ old.facts → IsEdited e old new (given r)
-carried_edited marks old new e ready unkept is (Ok a) answers starved tables cache now facts =
+carried_edited marks rings old new e ready unkept is (Ok a) answers starved tables cache now facts =
     let t = old.tables in
     let n = length t.receipts + 1 in
     made_edited old new e (answer_of a) unkept is.accepted
     (answers ∙ sym (ready_takes t e ready unkept is) ∙ ap (λ x. (does t x).answer) (its_edit t e ready is))
     (tables ∙ planned_tables t e ready is)
-    (cache ∙ plan_purges marks ready.plan.rows t.rows (rows_after n e.content t.rows) (touched_by n e.content t.rows) (cache_at old) is.planned.rows_are)
+    (cache ∙ plan_purges marks rings ready.plan.rows t.rows (rows_after n e.content t.rows) (touched_by n e.content t.rows) (cache_at old) is.planned.rows_are)
     now facts
-carried_edited marks old new e ready unkept is (Err f) answers starved tables cache now facts =
+carried_edited marks rings old new e ready unkept is (Err f) answers starved tables cache now facts =
     subst (IsEdited e old new) (sym starved) (starved_edited old new e unkept is.accepted tables cache now facts)
 
 -- the keeper tells the tables of the desk

@@ -1,11 +1,12 @@
 -- A desk that is loaded stands for no events.
-use Rattle.std.proofs.Common.{◌≡◌, [], refl, sym, ap, ◌∙◌, subst, arith, Some, None, Result, Ok, Err}
+use Rattle.std.proofs.Common.{◌≡◌, List, [], refl, sym, ap, ◌∙◌, subst, arith, Some, None, Result, Ok, Err}
 use Rattle.std.specs.Prelude.{IsSome, false}
 use Rattle.std.proofs.lemmas.Bool.{both_ways}
 use Rattle.std.proofs.lemmas.List.Elements.{All-nil}
 use Rattle.std.proofs.Math.Logic.{∥∥₁_elim}
 use Rattle.policy_model.specs.Tables.{Tables}
-use Rattle.policy_model.specs.History.{Opening, HasOwnIds, HasOwnKeys}
+use Rattle.policy_model.specs.History.{Entry, Counts, HasOwnIds, HasOwnKeys}
+use Rattle.object_model.specs.Plain.{Plain, Rings, no_rings}
 use Rattle.object_model.specs.Fresh.{IsFresh, IsSound}
 use Rattle.object_model.specs.Stands as model
 use Rattle.object_model.specs.StandsLaws.{OpeningStands}
@@ -20,12 +21,12 @@ use Rattle.store_reading.specs.Fault.{place_of}
 use Rattle.desk_state.specs.declared.desk.Desk.{Desk}
 use Rattle.desk_state.specs.declared.load_fault.LoadFault.{LoadFault}
 use Rattle.desk_state.specs.declared.load_fault.LoadFault.TheVariants.{KeeperFault, BadStore, OutOfMemory}
-use Rattle.desk_state.specs.Cache.{Cache}
+use Rattle.desk_state.specs.Cache.{Cache, cache_at}
 use Rattle.desk_state.specs.Loaded.{loaded, IsLoaded, IsLoadedAgain}
 use Rattle.desk_state.proofs.Purged.{parts_are}
 
 -- where a loaded desk begins is sound
-loaded_is_sound : (d : Opening) → HasOwnIds d.tables → HasOwnKeys d.tables → IsSound (loaded d.tables d.facts)
+loaded_is_sound : (d : Plain) → HasOwnIds d.tables → HasOwnKeys d.tables → IsSound (loaded d.tables d.facts)
 loaded_is_sound d ids keys = record {
   ids = ids;
   keys = keys;
@@ -34,12 +35,16 @@ loaded_is_sound d ids keys = record {
   fits = omega arith;
 }
 
-pub loaded_stands : OpeningStands → (d : Opening) → d.now ≡ 0 → d.entries ≡ [] → d.counts ≡ record { execute = 0; install = 0; document = 0 } → HasOwnIds d.tables → HasOwnKeys d.tables →
+abbrev with_parts : List Entry → Counts → Rings → Cache
+with_parts entries counts rings = record { entries = entries; counts = counts; rings = rings }
+
+pub loaded_stands : OpeningStands → (d : Plain) → d.now ≡ 0 → d.entries ≡ [] → d.counts ≡ record { execute = 0; install = 0; document = 0 } → d.rings ≡ no_rings → HasOwnIds d.tables → HasOwnKeys d.tables →
     model.Stands d (loaded d.tables d.facts) []
-loaded_stands stands d now entries counts ids keys =
-    let empty : Cache = ([], record { execute = 0; install = 0; document = 0 }) in
-    let cache : (d.entries, d.counts) ≡ empty = ap (λ x. (x, d.counts)) entries ∙ ap (λ x. ([], x)) counts in
-    subst (λ x. model.Stands x (loaded d.tables d.facts) []) (sym (parts_are d.tables d.tables d.facts d.facts d.now 0 (d.entries, d.counts) empty refl refl now cache))
+loaded_stands stands d now entries counts rings ids keys =
+    let empty : Cache = record { entries = []; counts = record { execute = 0; install = 0; document = 0 }; rings = no_rings } in
+    let cache : cache_at d ≡ empty =
+    ap (λ x. with_parts x d.counts d.rings) entries ∙ ap (λ x. with_parts [] x d.rings) counts ∙ ap (λ x. with_parts [] empty.counts x) rings in
+    subst (λ x. model.Stands x (loaded d.tables d.facts) []) (sym (parts_are d.tables d.tables d.facts d.facts d.now 0 (cache_at d) empty refl refl now cache))
     (stands (loaded d.tables d.facts) (loaded_is_sound d ids keys))
 
 -- tables that are loaded again

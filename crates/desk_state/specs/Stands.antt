@@ -8,6 +8,7 @@ use Rattle.policy_model.specs.Tables.{Tables}
 use Rattle.policy_model.specs.History.{Event, Opening}
 use Rattle.desk_state.specs.declared.desk.Desk.{Desk}
 use Rattle.edit_receipts.specs.Receipts.{receipts_of}
+use Rattle.object_model.specs.Plain.{Plain}
 use Rattle.object_model.specs.Stands as model
 use Rattle.desk_state.specs.Holds.{plain_of}
 use Rattle.desk_state.specs.Cache.{Cache, cache_in}
@@ -25,7 +26,7 @@ abbrev pub facts_of : Desk → Facts
 facts_of d = table_facts (arc_value d.facts)
 
 -- what a desk holds, as plain data
-abbrev pub plain : Desk → Opening
+abbrev pub plain : Desk → Plain
 plain d = plain_of (tables d) (facts_of d) (moment_of d) d.objects
 
 -- the desk is where the history h leads from the sound opening o
@@ -34,4 +35,4 @@ Stands d o h = model.Stands (plain d) o h
 
 -- what it keeps of earlier assessments
 abbrev pub cache_of : Desk → Cache
-cache_of d = cache_in d.objects
+cache_of d = cache_in (moment_of d) d.objects

@@ -27,7 +27,8 @@ use code_facts::FactTable;
 use edit_receipts::Receipts;
 use object_cache::Objects;
 use object_model::laws::{
-    a_desk_goes_on_standing, a_desk_is_fresh, what_was_judged_is_of_the_desk,
+    a_desk_goes_on_standing, a_desk_is_fresh, ended_entries_may_stay,
+    what_was_judged_is_of_the_desk,
 };
 use policy_model::laws::history_goes_on;
 use rule_values::Moment;
@@ -76,6 +77,7 @@ impl Desk {
         a_desk_goes_on_standing();
         a_desk_is_fresh();
         what_was_judged_is_of_the_desk();
+        ended_entries_may_stay();
         self.moment = later(self.moment, at);
         self.moment
     }

@@ -4,7 +4,6 @@
 pub mod answer;
 mod answering;
 pub mod begun;
-mod deciding;
 mod desk;
 pub mod fault;
 pub mod finished;

@@ -1,6 +1,7 @@
 //! Why a desk was not loaded.
 
 use policy_keeper::KeepFault;
+use std::alloc::AllocError;
 use store_reading::{StoreFault, StoreRow};
 
 /// Why no desk was made of what a keeper has.
@@ -25,6 +26,17 @@ impl From<KeepFault> for LoadFault {
             KeepFault::Failed => LoadFault::KeeperFault,
             KeepFault::OutOfMemory => LoadFault::OutOfMemory,
         }
+    }
+}
+
+impl From<AllocError> for LoadFault {
+    ghost use Rattle.std.specs.Prelude.{◌≡◌};
+    ghost use Rattle.desk_state.specs.declared.load_fault.LoadFault.TheVariants.{OutOfMemory};
+
+    ghost from_gives = { λ _ fault. fault ≡ OutOfMemory };
+
+    fn from(_error: AllocError) -> LoadFault {
+        LoadFault::OutOfMemory
     }
 }
 

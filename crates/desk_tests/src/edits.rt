@@ -29,10 +29,10 @@ pub fn assesses(alloc: Global, desk: &mut KeptDesk, ask: &Ask, text: &[u8]) -> b
     match desk.begin(alloc, ask) {
         Err(_) => return false,
         Ok(Begun::Known(verdict)) => verdict.line_into(None, &mut out),
-        Ok(Begun::Pending(ticket)) => match desk.finish(ticket) {
-            Err(_) => return false,
-            Ok(finished) => finished.verdict.line_into(Some(finished.offered), &mut out),
-        },
+        Ok(Begun::Pending(ticket)) => {
+            let finished = desk.finish(ticket);
+            finished.verdict.line_into(Some(finished.offered), &mut out);
+        }
     }
     out.as_slice() == text
 }
@@ -117,14 +117,10 @@ fn settles(desk: &mut KeptDesk, judged: Judged, text: &[u8]) -> bool
     requires { IsJudgedOfDesk (plain desk.old.desk) judged }
     ensures { KeepsOf (plain desk.old.desk) (plain desk.new.desk) }
 {
-    match desk.settle(judged) {
-        Err(_) => false,
-        Ok(finished) => {
-            let mut out = LineText::new();
-            finished.verdict.line_into(Some(finished.offered), &mut out);
-            out.as_slice() == text
-        }
-    }
+    let finished = desk.settle(judged);
+    let mut out = LineText::new();
+    finished.verdict.line_into(Some(finished.offered), &mut out);
+    out.as_slice() == text
 }
 
 // what was judged before an edit is as of its beginning, and isn't kept

@@ -59,7 +59,7 @@ impl KeptDesk {
     }
 
     /// Judges a ticket and finishes its assessment.
-    pub fn finish(&mut self, ticket: Ticket) -> Result<Finished, AllocError>
+    pub fn finish(&mut self, ticket: Ticket) -> Finished
         requires { IsTicketOfDesk (plain self.old.desk) (ticket_of ticket) }
     {
         let outcome = ticket.judge();
@@ -72,7 +72,7 @@ impl KeptDesk {
         self.desk.judge(ask)
     }
 
-    pub fn settle(&mut self, judged: Judged) -> Result<Finished, AllocError>
+    pub fn settle(&mut self, judged: Judged) -> Finished
         requires { IsJudgedOfDesk (plain self.old.desk) judged }
         ensures { KeepsOf (plain self.old.desk) (plain self.new.desk) }
     {

@@ -26,7 +26,7 @@ fn kept(alloc: Global, table: &mut Table, number: u32, disabled: u32) -> Option<
     Some(())
 }
 
-// the older of two rules governs, and the disabled one is latent
+// the older of two rules governs until its end, and the disabled one is latent
 fn both_found(alloc: Global) -> Option<bool> {
     let mut table = Table::new(alloc);
     kept(alloc, &mut table, 1, 7)?;
@@ -35,16 +35,30 @@ fn both_found(alloc: Global) -> Option<bool> {
     let subject = subject()?;
     let found = table.find(Kind::Execute, &subject, None, Moment::zero());
     let other = table.find(Kind::Install, &subject, None, Moment::zero());
-    Some(
-        table.count() == 3
-            && is_found(found.governing, 2)
-            && is_found(found.latent, 1)
-            && finds_none(other),
-    )
+    Some(table.count() == 3 && governs_beside(&found, 2, 1) && finds_none(&other))
 }
 
-fn finds_none(found: Found<'_>) -> bool {
-    found.governing.is_none() && found.latent.is_none()
+fn governs_beside(found: &Found<'_>, number: u32, latent_number: u32) -> bool {
+    match found {
+        Found::Governed {
+            rule,
+            until,
+            latent,
+        } => {
+            until.map(|moment| moment.get()) == Some(1_000)
+                && is_found(Some(rule), number)
+                && is_found(*latent, latent_number)
+        }
+        Found::Default { .. } => false,
+    }
+}
+
+// a denial stands for a minute
+fn finds_none(found: &Found<'_>) -> bool {
+    match found {
+        Found::Governed { .. } => false,
+        Found::Default { latent, until } => latent.is_none() && *until == 60,
+    }
 }
 
 #[test]

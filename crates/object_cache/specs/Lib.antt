@@ -1,4 +1,5 @@
 pub mod Entry
 pub mod Offered
 pub mod Marks
+pub mod LateRanks
 pub mod Objects

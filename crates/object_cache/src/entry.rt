@@ -127,7 +127,8 @@ fn is_reached(outcome: &Outcome, first: &Rank) -> bool
     }
 }
 
-fn is_before(one: &Rank, other: &Rank) -> bool
+/// Whether the rule of one rank is tried before that of the other.
+pub(crate) fn is_before(one: &Rank, other: &Rank) -> bool
     ensures { result ≡ rules.is_before (rank_view one.now) (rank_view other.now) }
 {
     one.before(other)

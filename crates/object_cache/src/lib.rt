@@ -2,6 +2,7 @@
 #![tactic(auto)]
 
 mod entry;
+mod late_ranks;
 mod marks;
 mod objects;
 mod offered;

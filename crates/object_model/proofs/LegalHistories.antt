@@ -4,7 +4,7 @@ use Rattle.std.specs.Prelude.{◌≢◌, All, slice_get}
 use Rattle.std.proofs.lemmas.List.{take-append-le}
 use Rattle.std.proofs.lemmas.Option.{slice_get_within}
 use Rattle.policy_model.specs.History.{Event, offer, Opening}
-use Rattle.object_model.specs.Fresh.{IsOpen, IsLegal}
+use Rattle.object_model.specs.Fresh.{IsOpen, MayCome, IsLegal}
 
 pub get_more : (h more : List Event) (k : ℕ) (e : Event) → slice_get h k ≡ Some e → slice_get (h ++ more) k ≡ Some e
 get_more [] more k e is = absurd (omega (arith, slice_get_within {A = Event} [] k e is))
@@ -35,15 +35,15 @@ pub all_taken : (h : List Event) (e : Event) → take (length h) (h ++ e ∷ [])
 all_taken [] e = refl
 all_taken (d ∷ h) e = ap (λ r. d ∷ r) (all_taken h e)
 
--- no offer stands in a history of no events
+-- a history of no events is legal
 pub legal_start : (o : Opening) → IsLegal o []
-legal_start o j k is = absurd (omega (arith, slice_get_within {A = Event} [] j (offer k) is))
+legal_start o j e is = absurd (omega (arith, slice_get_within {A = Event} [] j e is))
 
--- a legal history stays so by an event that is no offer or a legal one
-pub legal_more : (o : Opening) (h : List Event) (e : Event) → IsLegal o h → ((k : ℕ) → e ≡ offer k → IsOpen o h k) → IsLegal o (h ++ e ∷ [])
-legal_more o h e legal new j k is = elim (get_split h e j (offer k) is) as (λ _. IsOpen o (take j (h ++ e ∷ [])) k) [
-  | inl lt ↦ subst (λ x. IsOpen o x k) (sym (take-append-le j h (e ∷ []) (omega (arith, lt)))) (legal j k (get_old h e j (offer k) lt is))
-  | inr last ↦ subst (λ x. IsOpen o x k) (sym (ap (λ n. take n (h ++ e ∷ [])) last.0 ∙ all_taken h e)) (new k last.1)
+-- a legal history stays so by an event that may come
+pub legal_more : (o : Opening) (h : List Event) (e : Event) → IsLegal o h → MayCome o h e → IsLegal o (h ++ e ∷ [])
+legal_more o h e legal new j x is = elim (get_split h e j x is) as (λ _. MayCome o (take j (h ++ e ∷ [])) x) [
+  | inl lt ↦ subst (λ y. MayCome o y x) (sym (take-append-le j h (e ∷ []) (omega (arith, lt)))) (legal j x (get_old h e j x lt is))
+  | inr last ↦ subst (λ y. MayCome o y x) (sym (ap (λ n. take n (h ++ e ∷ [])) last.0 ∙ all_taken h e)) (subst (MayCome o h) last.1 new)
 ]
 
 get_at : (h : List Event) (k : ℕ) (d : Event) → k < length h → slice_get h k ≡ Some (get_or h k d)
@@ -59,8 +59,5 @@ shorter (suc k) (e ∷ h) = omega (arith, shorter k h)
 -- no offer names a place that isn't there yet
 pub none_ahead : (o : Opening) (h : List Event) → IsLegal o h → All (λ e. e ≢ offer (length h)) h
 none_ahead o h legal k d lt same =
-    let is : IsOpen o (take k h) (length h) = legal k (length h) (get_at h k d lt ∙ ap Some same) in
+    let is : IsOpen o (take k h) (length h) = legal k (offer (length h)) (get_at h k d lt ∙ ap Some same) in
     omega (arith, slice_get_within (take k h) (length h) _ is.begun, shorter k h)
-
-pub one_offer : (k j : ℕ) → offer k ≡ offer j → k ≡ j
-one_offer k j same = cc

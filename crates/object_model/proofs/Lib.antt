@@ -16,6 +16,7 @@ pub mod TicketLaws
 pub mod MoreLaws
 pub mod PurgeLaws
 pub mod RingLaws
+pub mod RingSteps
 pub mod StandsLemmas
 pub mod FreshDesk
 pub mod MarkBounds

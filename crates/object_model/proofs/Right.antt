@@ -38,7 +38,7 @@ not_before a b h = false_from_ne_true (is_before a b) (λ t. h (test_before a b 
 in_front : (kind : Kind) (rank : Rank) (s : Row) (b : Bool) → is_before rank (rank_of s) ≡ b → s.kind ≡ kind → b ≡ false → (same_kind s.kind kind && not (is_before rank (rank_of s))) ≡ true
 in_front kind rank s b e k f = let a : is_before rank (rank_of s) ≡ false = e ∙ f in let c : same_kind s.kind kind ≡ true = same_kind-from s.kind kind k in grind (arith, a, c)
 
-governed_through : (rows later : List Row) (kind : Kind) (subject : Subject) (facts : Facts) (m n : ℕ) (rank : Rank) (allow : Bool) (label : List ℕ) (inhibit : Bool) (until : Option ℕ)
+pub governed_through : (rows later : List Row) (kind : Kind) (subject : Subject) (facts : Facts) (m n : ℕ) (rank : Rank) (allow : Bool) (label : List ℕ) (inhibit : Bool) (until : Option ℕ)
     → filter (rests_on kind (governed rank allow label inhibit until)) rows ≡ filter (rests_on kind (governed rank allow label inhibit until)) later
     → m ≤ n → is_below n until ≡ true
     → IsGovernedBy rows kind subject facts m rank allow label inhibit until → IsGovernedBy later kind subject facts n rank allow label inhibit until

@@ -66,7 +66,7 @@ firsts_cut o h k kind =
     ∙ ap (firsts kind) (touched_joined (take k h) (drop k h) o.tables)
     ∙ filter_map-append (first_touched kind) (touched_after (take k h) o.tables) (touched_since o h k)
 
-take_again : (m n : ℕ) (xs : List Rank) → m ≤ n → take m (take n xs) ≡ take m xs
+pub take_again : (m n : ℕ) (xs : List Rank) → m ≤ n → take m (take n xs) ≡ take m xs
 take_again zero n xs le = refl
 take_again (suc m) zero xs le = absurd (omega (arith, le))
 take_again (suc m) (suc n) [] le = refl

@@ -1,22 +1,23 @@
 -- A ticket stays that of its place, and says what the rules said there.
-use Rattle.std.proofs.Common.{◌≡◌, ℕ, ◌<◌, ◌≤◌, List, [], ◌∷◌, ◌++◌, length, take, refl, sym, ap, ◌∙◌, subst, arith, Option, Some, None}
-use Rattle.std.specs.Prelude.{◌≢◌, Bool, true, false, not, ◌||◌, nat_lt, nat_le}
+use Rattle.std.proofs.Common.{◌≡◌, ℕ, ◌-◌, ◌<◌, ◌≤◌, List, [], ◌∷◌, ◌++◌, length, take, refl, sym, ap, ◌∙◌, subst, arith, Option, Some, None}
+use Rattle.std.specs.Prelude.{◌≢◌, Bool, true, false, not, ◌||◌, nat_le}
 use Rattle.std.specs.List.{filter, list_any}
 use Rattle.std.proofs.lemmas.List.{take-append-le}
 use Rattle.std.proofs.lemmas.Option.{slice_get_within}
 use Rattle.std.proofs.lemmas.Bool.{ltb-true, lt-ltb}
 use Rattle.std.proofs.lemmas.List.Elements.{All-push}
 use Rattle.policy_model.specs.Rules.{is_below}
-use Rattle.policy_model.specs.Outcomes.{outcome, verdict_by}
+use Rattle.policy_model.specs.Outcomes.{Outcome, outcome, verdict_by}
 use Rattle.policy_model.specs.History.{offer, Entry, tables_of, now_of}
 use Rattle.object_model.specs.Objects.{is_unexpired, outlasts, is_for, ends, inhibits, by_rules}
 use Rattle.object_model.specs.Past.{mark_of}
 use Rattle.object_model.specs.Kept.{entry_of, objects_of}
-use Rattle.object_model.specs.declared.limits.TheConstants.{MOST_ENTRIES}
+use Rattle.object_model.specs.declared.limits.TheConstants.{MOST_ENTRIES, LATE_EDITS}
 use Rattle.object_model.specs.Tickets.{ticket_ask, DecideAlike, judged}
 use Rattle.object_model.specs.Laws.{TicketStays, TicketJudges, TicketAnswers, TicketDecides}
 use Rattle.object_model.specs.DropLaws.{TickPassesOver, EditPassesOver}
-use Rattle.object_model.proofs.CountLaws.{moved_by_counts}
+use Rattle.object_model.specs.Rings.{ring_of, moved_by}
+use Rattle.object_model.proofs.RingLaws.{moved_by_ring}
 use Rattle.object_model.proofs.LegalHistories.{get_more}
 
 pub ticket_stays : TicketStays
@@ -52,9 +53,10 @@ ticket_decides t o h k is =
     let same : x.outcome ≡ judged t = sym (ticket_judges t o h k is) in
     let twice' : Bool = list_any (is_for t.kind t.subject) (objects_of o h) in
     let full' : Bool = nat_le MOST_ENTRIES (length (objects_of o h)) in
+    let moved : Outcome → ℕ → Bool = λ out n. moved_by LATE_EDITS out (mark_of o h t.kind - n) (ring_of LATE_EDITS o h t.kind) in
     ap (λ b. by_rules (not t.keep || inhibits x.outcome) b (not (is_unexpired (now_of o h) x)) twice' full')
-    (moved_by_counts o h k x ∙ ap (λ n. nat_lt n (mark_of o h t.kind)) (sym is.mark_is))
-    ∙ ap (λ out. by_rules (not t.keep || inhibits out) (nat_lt t.mark (mark_of o h t.kind)) (not (is_below (now_of o h) (ends out))) twice' full') same
+    (sym (moved_by_ring LATE_EDITS o h k x) ∙ ap (moved x.outcome) (sym is.mark_is))
+    ∙ ap (λ out. by_rules (not t.keep || inhibits out) (moved out t.mark) (not (is_below (now_of o h) (ends out))) twice' full') same
 
 -- filters in turn
 

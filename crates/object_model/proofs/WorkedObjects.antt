@@ -1,5 +1,5 @@
 -- Worked histories, computed by the definitions alone: what is kept, and what becomes of each offer.
-use Rattle.std.specs.Prelude.{◌≡◌, ℕ, List, [], ◌∷◌, ◌++◌, replicate, refl, codes, Some, None, pos, Bool, true, false, Option, length, map}
+use Rattle.std.specs.Prelude.{◌≡◌, ℕ, zero, suc, List, [], ◌∷◌, ◌++◌, replicate, refl, codes, Some, None, pos, Bool, true, false, Option, length, map}
 use Rattle.std.specs.Fmt.{digits}
 use Rattle.req_tree.specs.Tree.{always}
 use Rattle.req_tree.specs.Subject.{Subject}
@@ -47,8 +47,17 @@ overtaken : fate (edit (adds (codes "lo") true 1 None) ∷ ask (asks execute tru
 unfolding digits places add_front content_text
 overtaken = refl
 
--- while no later edit is forgiven, also one that is tried later
-lower_since : fate (edit (adds (codes "lo") true 9 None) ∷ ask (asks execute true) ∷ edit (adds (codes "hi") false 1 None) ∷ []) 1 (asks execute true) ≡ moved
+-- one that is tried later is forgiven, up to 64 of them
+
+-- so many edits, each of which enables rule 2
+abbrev enables : ℕ → List Event
+enables zero = []
+enables (suc n) = edit (record { key = n ∷ codes "k"; content = enable (record { which = by_id 2; kind = None }) }) ∷ enables n
+
+abbrev lower_edits : ℕ → List Event
+lower_edits n = edit (adds (codes "lo") true 9 None) ∷ ask (asks execute true) ∷ edit (adds (codes "hi") false 1 None) ∷ enables n
+
+lower_since : map (λ n. fate (lower_edits n) 1 (asks execute true)) (0 ∷ 63 ∷ 64 ∷ []) ≡ kept ∷ kept ∷ moved ∷ []
 unfolding digits places add_front content_text
 lower_since = refl
 

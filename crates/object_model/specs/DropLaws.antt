@@ -10,6 +10,7 @@ use Rattle.object_model.specs.Past.{touched_since, mark_of}
 use Rattle.object_model.specs.Purges.{first_touched, purged_by, counts_by}
 use Rattle.object_model.specs.Stands.{counts_with}
 use Rattle.object_model.specs.Rings.{ring_of, moved_by}
+use Rattle.object_model.specs.Plain.{Rings, rings_with, rings_by}
 
 -- where no later edit of the kind is forgiven, the counts tell whether an outcome has moved
 abbrev pub MovedByCounts : Type 0
@@ -52,3 +53,7 @@ CountsPurges = (kind : Kind) (touched : List Row) → is_some (first_touched kin
 -- so the counts after an edit are those after its first touched ranks
 abbrev pub MarksPurge : Type 0
 MarksPurge = (touched : List Row) (c : Counts) → counts_with touched c ≡ counts_by touched c
+
+-- and so are the rings
+abbrev pub RingsPurge : Type 0
+RingsPurge = (touched : List Row) (r : Rings) → rings_with touched r ≡ rings_by touched r

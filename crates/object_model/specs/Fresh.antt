@@ -1,11 +1,12 @@
 -- Each kept entry is still what the rules say. This project's own.
-use Rattle.std.specs.Prelude.{◌≡◌, ◌≢◌, ℕ, ◌≤◌, List, take, length, All, AllPairs, Bool, true, false, Some, slice_get}
+use Rattle.std.specs.Prelude.{◌≡◌, ◌≢◌, ⊤, ℕ, ◌≤◌, List, take, length, All, AllPairs, Bool, true, false, Some, slice_get}
 use Rattle.std.specs.List.{list_any}
 use Rattle.req_tree.specs.Subject.{Subject}
 use Rattle.req_tree.specs.Facts.{Facts}
 use Rattle.policy_model.specs.Rules.{Row, Kind}
 use Rattle.policy_model.specs.Outcomes.{Outcome, governed, default, outcome}
-use Rattle.policy_model.specs.History.{Event, ask, offer, Entry, Opening, tables_of, now_of, HasOwnIds, HasOwnKeys}
+use Rattle.policy_model.specs.Tables.{IsAccepted}
+use Rattle.policy_model.specs.History.{Event, ask, offer, edit_failed, edit_starved, Entry, Opening, tables_of, now_of, edit_answer, HasOwnIds, HasOwnKeys}
 use Rattle.object_model.specs.Objects.{is_unexpired, is_for}
 use Rattle.object_model.specs.Past.{counts_of}
 use Rattle.object_model.specs.Kept.{objects_of}
@@ -57,6 +58,13 @@ pub record IsOpen (o : Opening) (h : List Event) (k : ℕ) : Type 0 where
   pub missed : list_any (is_for kind subject) (objects_of o (take k h)) ≡ false
   pub once : All (λ e. e ≢ offer k) h
 
--- each offer names an ask that was open when it came
+-- the event may come after the history h: an offer is of an ask that is open, and an edit that wasn't kept or found no memory would have been accepted
+abbrev pub MayCome : Opening → List Event → Event → Type 0
+MayCome o h (offer k) = IsOpen o h k
+MayCome o h (edit_failed e) = IsAccepted (edit_answer o h e)
+MayCome o h (edit_starved e) = IsAccepted (edit_answer o h e)
+MayCome o h other = ⊤
+
+-- each event might come where it came
 abbrev pub IsLegal : Opening → List Event → Type 0
-IsLegal o h = (j k : ℕ) → slice_get h j ≡ Some (offer k) → IsOpen o (take j h) k
+IsLegal o h = (j : ℕ) (e : Event) → slice_get h j ≡ Some e → MayCome o (take j h) e

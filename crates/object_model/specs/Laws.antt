@@ -1,5 +1,5 @@
 -- What is kept stays right, and what a ticket holds is enough; each is proved on a function of src/laws.rt.
-use Rattle.std.specs.Prelude.{◌≡◌, ◌≢◌, ℕ, ◌≤◌, List, [], ◌∷◌, ◌++◌, take, length, Contains, Bool, true, not, ◌||◌, nat_lt, nat_le, Some}
+use Rattle.std.specs.Prelude.{◌≡◌, ◌≢◌, ℕ, ◌-◌, ◌≤◌, List, [], ◌∷◌, ◌++◌, take, length, Contains, Bool, true, not, ◌||◌, nat_le, Some}
 use Rattle.std.specs.List.{filter, find, list_any}
 use Rattle.req_tree.specs.Subject.{Subject}
 use Rattle.req_tree.specs.Facts.{Facts}
@@ -11,8 +11,9 @@ use Rattle.policy_model.specs.Outcomes.{outcome, verdict_by, Ask}
 use Rattle.policy_model.specs.History.{Event, offer, Entry, Opening, tables_of, now_of, ask_answer, HasOwnIds, fresh}
 use Rattle.object_model.specs.Objects.{kept, is_unexpired, outlasts, is_for, ends, inhibits, by_rules}
 use Rattle.object_model.specs.Past.{mark_of}
+use Rattle.object_model.specs.Rings.{ring_of, moved_by}
 use Rattle.object_model.specs.Kept.{entry_of, decision_of, objects_of}
-use Rattle.object_model.specs.declared.limits.TheConstants.{MOST_ENTRIES}
+use Rattle.object_model.specs.declared.limits.TheConstants.{MOST_ENTRIES, LATE_EDITS}
 use Rattle.object_model.specs.Tickets.{Ticket, ticket_ask, IsTicketOf, judged}
 use Rattle.object_model.specs.Fresh.{StillSays, IsFresh, AreFresh, IsSound, opening_after}
 
@@ -64,9 +65,9 @@ abbrev pub TicketAnswers : Type 0
 TicketAnswers = (t : Ticket) (o : Opening) (h : List Event) (k : ℕ) → IsTicketOf t o h k →
     verdict_by t.enabled t.at (judged t) ≡ ask_answer o (take k h) (ticket_ask t)
 
--- where no later edit of the kind is forgiven, what becomes of its offer is read off the ticket, the counts and the entries
+-- what becomes of its offer is read off the ticket, the counts, the ring and the entries
 abbrev pub TicketDecides : Type 0
 TicketDecides = (t : Ticket) (o : Opening) (h : List Event) (k : ℕ) → IsTicketOf t o h k →
     decision_of o h (objects_of o h) k (ticket_ask t) t.subject
-    ≡ by_rules (not t.keep || inhibits (judged t)) (nat_lt t.mark (mark_of o h t.kind)) (not (is_below (now_of o h) (ends (judged t))))
+    ≡ by_rules (not t.keep || inhibits (judged t)) (moved_by LATE_EDITS (judged t) (mark_of o h t.kind - t.mark) (ring_of LATE_EDITS o h t.kind)) (not (is_below (now_of o h) (ends (judged t))))
     (list_any (is_for t.kind t.subject) (objects_of o h)) (nat_le MOST_ENTRIES (length (objects_of o h)))

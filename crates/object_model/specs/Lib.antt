@@ -5,6 +5,7 @@ pub mod Fresh
 pub mod Once
 pub mod Purges
 pub mod Rings
+pub mod Plain
 pub mod Tickets
 pub mod Laws
 pub mod DropLaws

@@ -1,14 +1,13 @@
 -- A list of entries is fresh in one way at most, so that a type may keep that it is.
 use Rattle.std.specs.Prelude.{ℕ, List}
-use Rattle.std.specs.List.{filter}
 use Rattle.std.specs.Coded.{Coded, Coded-set, codes, le_prop}
 use Rattle.req_tree.specs.Facts.{Facts}
 use Rattle.policy_model.specs.Rules.{Row}
 use Rattle.policy_model.specs.Outcomes.{Outcome, governed, default}
-use Rattle.policy_model.specs.History.{Entry, Opening}
+use Rattle.policy_model.specs.History.{Entry}
 use Rattle.object_model.specs.Fresh.{StillSays, IsFresh, AreFresh}
-use Rattle.object_model.specs.Objects.{is_unexpired}
 use Rattle.object_model.specs.Stands.{IsFreshDesk}
+use Rattle.object_model.specs.Plain.{Plain}
 
 -- outcomes are plain data
 outcome_code : Coded Outcome
@@ -29,5 +28,5 @@ pub fresh_once : (rows : List Row) (facts : Facts) (m : ℕ) (objects : List Ent
 fresh_once rows facts m objects = hlevel (one_once, le_prop)
 
 -- and so is a desk
-pub fresh_desk_once : (d : Opening) → IsProp (IsFreshDesk d)
-fresh_desk_once d = fresh_once d.tables.rows d.facts d.now (filter (is_unexpired d.now) d.entries)
+pub fresh_desk_once : (d : Plain) → IsProp (IsFreshDesk d)
+fresh_desk_once d = fresh_once d.tables.rows d.facts d.now d.entries

@@ -1,9 +1,9 @@
 //! Laws over the definitions: functions that do nothing and whose contracts are the laws.
 
-ghost use Rattle.object_model.specs.StandsLaws.{KnownAnswers, BeginGives, OpeningStands, TickStands, QuietStands, EditStands, FinishStands, TickKeepsFresh, EditKeepsFresh, StandsFresh, MarksStayBelow};
+ghost use Rattle.object_model.specs.StandsLaws.{KnownAnswers, BeginGives, OpeningStands, TickStands, QuietStands, FailedStands, StarvedStands, EditStands, FinishStands, TickKeepsFresh, EditKeepsFresh, StandsFresh, MarksStayBelow};
 ghost use Rattle.object_model.specs.OfDeskLaws.{BeginsOfDesk, TickKeepsOf, EditKeepsOf, EntriesKeepOf, OfferKeepsFresh, FinishKeepsFresh, HistoryTicketsAreOf};
 ghost use Rattle.object_model.specs.Laws.{StaysSound, FreshIsSound, HoldsUntil, FoundAnswers, TickKeeps, EditKeeps, OfferKeeps, TicketStays, TicketJudges, TicketAnswers, TicketDecides};
-ghost use Rattle.object_model.specs.DropLaws.{MovedByCounts, MovedByRing, GovernedOutlasts, DefaultOutlasts, TickPassesOver, EditPassesOver, EditPurges, CountsPurges, MarksPurge};
+ghost use Rattle.object_model.specs.DropLaws.{MovedByCounts, MovedByRing, GovernedOutlasts, DefaultOutlasts, TickPassesOver, EditPassesOver, EditPurges, CountsPurges, MarksPurge, RingsPurge};
 
 /// What is kept stays right through any history: although it was judged over rules that edits have since passed.
 pub fn kept_stays_right()
@@ -51,6 +51,7 @@ pub fn first_ranks_purge()
     ensures entries { EditPurges }
     ensures counts { CountsPurges }
     ensures marks { MarksPurge }
+    ensures rings { RingsPurge }
 {}
 
 /// Each call leaves a desk standing for the history with its event added.
@@ -60,6 +61,8 @@ pub fn a_desk_goes_on_standing()
     ensures begin { BeginGives }
     ensures tick { TickStands }
     ensures quiet { QuietStands }
+    ensures failed { FailedStands }
+    ensures starved { StarvedStands }
     ensures edit { EditStands }
     ensures finish { FinishStands }
 {}

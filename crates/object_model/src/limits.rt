@@ -4,4 +4,4 @@
 pub const MOST_ENTRIES: usize = 16_384;
 
 /// An outcome that a rule decided is kept although up to so many later edits touched its kind, each behind that rule.
-pub const LATE_EDITS: u64 = 0;
+pub const LATE_EDITS: u64 = 64;

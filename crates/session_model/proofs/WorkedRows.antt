@@ -57,14 +57,14 @@ overtaken : IsRequirementText (codes "always") always → Answers
 unfolding digits decode_pairs places add_front content_text verdict_text status_line
 overtaken says = (_, (_, _, (_, (Ok always, says, refl), refl), inl (refl, refl), (_, _, refl, inl (refl, refl), (_, _, (_, (Ok always, says, refl), refl), inl (refl, refl), (_, _, refl, inl (refl, refl), (_, _, refl, inl (refl, refl), refl))))))
 
--- with no late edit allowed, any edit of the kind moves it
+-- an edit of a rule that is tried later leaves it
 overtaken_behind : IsRequirementText (codes "always") always → Answers
     (codes "add lo execute allow 9 never - - always"
     ∷ (codes "begin 1 execute " ++ ones ++ codes " com.example.app 0")
     ∷ codes "add hi execute deny 1 never - - always" ∷ codes "finish 1" ∷ assess_line ∷ [])
     (codes "ok edit=1 rules=1" ∷ codes "begun 1 at=0" ∷ codes "ok edit=2 rules=1"
-    ∷ codes "accepted at=0 rule=1 latent=none label=- override=none source=rules cache=moved"
-    ∷ codes "accepted at=0 rule=1 latent=none label=- override=none source=rules cache=kept" ∷ [])
+    ∷ codes "accepted at=0 rule=1 latent=none label=- override=none source=rules cache=kept"
+    ∷ codes "accepted at=0 rule=1 latent=none label=- override=none source=cache cache=none" ∷ [])
 unfolding digits decode_pairs places add_front content_text verdict_text status_line
 overtaken_behind says = (_, (_, _, (_, (Ok always, says, refl), refl), inl (refl, refl), (_, _, refl, inl (refl, refl), (_, _, (_, (Ok always, says, refl), refl), inl (refl, refl), (_, _, refl, inl (refl, refl), (_, _, refl, inl (refl, refl), refl))))))
 

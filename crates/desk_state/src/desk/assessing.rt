@@ -1,6 +1,6 @@
 //! Assessments: they begin, and are finished, in any order and while edits come.
 
-ghost use Rattle.std.specs.Prelude.{◌≡◌, ◌++◌, ◌∷◌, [], ℕ, List, Some, None, option_map, IfOk, OnOk, OnErr};
+ghost use Rattle.std.specs.Prelude.{◌≡◌, ◌++◌, ◌∷◌, [], ℕ, List, Some, None, option_map, IfOk, OnErr};
 ghost use Rattle.std.specs.List.{find};
 ghost use Rattle.req_tree.specs.Subject.{subject_of};
 ghost use Rattle.policy_model.specs.History.{Event, Opening};
@@ -9,14 +9,15 @@ ghost use Rattle.rule_values.specs.Kind.{kind_of};
 ghost use Rattle.rule_values.specs.Outcome.{outcome_of};
 ghost use Rattle.object_model.specs.Objects.{is_for};
 ghost use Rattle.object_model.specs.Tickets.{IsTicketOf, judged};
+ghost use Rattle.object_model.specs.Stands as model;
 ghost use Rattle.object_model.specs.OfDesk.{IsTicketOfDesk, KeepsOf};
 ghost use Rattle.object_cache.specs.Entry.{entry_found};
 ghost use Rattle.object_cache.specs.Objects.{live_at};
 ghost use Rattle.assess.specs.Ask.{ask_of};
 ghost use Rattle.desk_ticket.specs.Ticket.{ticket_of};
 ghost use Rattle.desk_state.specs.Stands.{plain, Stands};
-ghost use Rattle.desk_state.specs.Begun.{IsBegun, IsBegunOfDesk, BeginsAfter, IsTicketOn};
-ghost use Rattle.desk_state.specs.Finished.{IsFinished, FinishesAfter, finished_so};
+ghost use Rattle.desk_state.specs.Begun.{known_on, IsBegun, IsBegunOfDesk, BeginsAfter, IsTicketOn};
+ghost use Rattle.desk_state.specs.Finished.{IsFinished, FinishesAfter};
 
 use crate::answering::{answered, unsigned};
 use crate::begun::Begun;
@@ -39,6 +40,7 @@ impl Desk {
     /// it, and else a ticket holds what its rules were.
     pub fn begin(&self, alloc: Global, ask: &Ask) -> Result<Begun, AllocError>
         ensures begun { IfOk result (λ begun. IsBegun (plain self.now) (ask_of ask.now) begun) }
+        ensures wanting { OnErr result (known_on (plain self.now) (ask_of ask.now).kind (ask_of ask.now).subject ≡ None) }
         ensures of_desk { IfOk result (λ begun. IsBegunOfDesk (plain self.now) begun) }
 
         // After any history of this desk.
@@ -61,7 +63,8 @@ impl Desk {
         subject: &Subject,
         keep: bool,
     ) -> Result<Begun, AllocError>
-        ensures { IfOk result (λ begun. IsBegun (plain self.now) (record { kind = kind_of kind; subject = Some (subject_of subject.now); keep = keep }) begun) }
+        ensures begun { IfOk result (λ begun. IsBegun (plain self.now) (record { kind = kind_of kind; subject = Some (subject_of subject.now); keep = keep }) begun) }
+        ensures wanting { OnErr result (known_on (plain self.now) (kind_of kind) (Some (subject_of subject.now)) ≡ None) }
     {
         match self.objects.find(kind, subject, self.moment) {
             Some(entry) => Ok(Begun::Known(answered(
@@ -102,20 +105,17 @@ impl Desk {
     }
 
     /// Finishes an assessment of this desk with what its ticket judged: the verdict is as of its beginning, and its
-    /// outcome is offered to be kept. Where there is no memory, nothing changes.
-    pub fn finish(&mut self, ticket: Ticket, outcome: Outcome) -> Result<Finished, AllocError>
+    /// outcome is offered to be kept.
+    pub fn finish(&mut self, ticket: Ticket, outcome: Outcome) -> Finished
         requires outcome { outcome_of outcome ≡ judged (ticket_of ticket) }
         requires of_desk { IsTicketOfDesk (plain self.old) (ticket_of ticket) }
-        ensures finished { IfOk result (λ finished. IsFinished (plain self.old) (ticket_of ticket) finished) }
-        ensures leaves { plain self.new ≡ finished_so result (ticket_of ticket) (plain self.old) }
+        ensures finished { IsFinished (plain self.old) (ticket_of ticket) result }
+        ensures leaves { plain self.new ≡ model.finished (ticket_of ticket) (plain self.old) }
         ensures of_desk { KeepsOf (plain self.old) (plain self.new) }
 
         // After any history of this desk that has the ticket's ask.
-        ensures after { (o : Opening) (h : List Event) (k : ℕ) → Stands self.old o h → IsTicketOf (ticket_of ticket) o h k
-            → IfOk result (λ finished. FinishesAfter o h k (ticket_of ticket) finished) }
-        ensures stands { (o : Opening) (h : List Event) (k : ℕ) → Stands self.old o h → IsTicketOf (ticket_of ticket) o h k
-            → OnOk result (Stands self.new o (h ++ event.offer k ∷ [])) }
-        ensures unchanged { (o : Opening) (h : List Event) → Stands self.old o h → OnErr result (Stands self.new o h) }
+        ensures after { (o : Opening) (h : List Event) (k : ℕ) → Stands self.old o h → IsTicketOf (ticket_of ticket) o h k → FinishesAfter o h k (ticket_of ticket) result }
+        ensures stands { (o : Opening) (h : List Event) (k : ℕ) → Stands self.old o h → IsTicketOf (ticket_of ticket) o h k → Stands self.new o (h ++ event.offer k ∷ []) }
     {
         a_desk_goes_on_standing();
         a_ticket_is_enough();
@@ -123,18 +123,18 @@ impl Desk {
         self.finish_now(ticket, outcome)
     }
 
-    fn finish_now(&mut self, ticket: Ticket, outcome: Outcome) -> Result<Finished, AllocError>
+    fn finish_now(&mut self, ticket: Ticket, outcome: Outcome) -> Finished
         requires outcome { outcome_of outcome ≡ judged (ticket_of ticket) }
         requires of_desk { IsTicketOfDesk (plain self.old) (ticket_of ticket) }
-        ensures finished { IfOk result (λ finished. IsFinished (plain self.old) (ticket_of ticket) finished) }
-        ensures leaves { plain self.new ≡ finished_so result (ticket_of ticket) (plain self.old) }
+        ensures finished { IsFinished (plain self.old) (ticket_of ticket) result }
+        ensures leaves { plain self.new ≡ model.finished (ticket_of ticket) (plain self.old) }
     {
         a_desk_is_fresh();
         let verdict = answered(ticket.is_enabled(), ticket.at(), &outcome, Origin::Rules);
         let since = ticket.mark();
         let inhibit = !ticket.keeps();
         let entry = ticket.entry(outcome);
-        let offered = self.objects.offer(&entry, since, self.moment, inhibit)?;
-        Ok(Finished { verdict, offered })
+        let offered = self.objects.offer(&entry, since, self.moment, inhibit);
+        Finished { verdict, offered }
     }
 }

@@ -64,6 +64,7 @@ impl Desk {
         ensures legal { (o : Opening) (h : List Event) → Stands self.old o h → IfSome (given result) (λ answer. answer ≡ edit_answer o h (edit_of edit.now)) }
         ensures stands { (o : Opening) (h : List Event) → IsSome (given result) → Stands self.old o h → Stands self.new o (h ++ event.edit (edit_of edit.now) ∷ []) }
         ensures failed { (o : Opening) (h : List Event) → IsErrOf result EditFault.KeeperFault → Stands self.old o h → Stands self.new o (h ++ event.edit_failed (edit_of edit.now) ∷ []) }
+        ensures starved { (o : Opening) (h : List Event) → IsErrOf result EditFault.OutOfMemory → Stands self.old o h → Stands self.new o (h ++ event.edit_starved (edit_of edit.now) ∷ []) }
         ensures unchanged { (o : Opening) (h : List Event) → IsNone (given result) → Stands self.old o h → Stands self.new o h }
 
         // A failure of the keeper shows in its count, which never falls, and nothing else moves it.

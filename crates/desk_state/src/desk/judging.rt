@@ -1,6 +1,6 @@
 //! Assessments that are judged as they begin, and are finished later.
 
-ghost use Rattle.std.specs.Prelude.{◌≡◌, ◌++◌, ◌∷◌, [], ℕ, List, Some, IfOk, OnOk, OnErr};
+ghost use Rattle.std.specs.Prelude.{◌≡◌, ◌++◌, ◌∷◌, [], ℕ, List, Some};
 ghost use Rattle.req_tree.specs.Facts.{known_of};
 ghost use Rattle.req_tree.specs.Subject.{subject_of};
 ghost use Rattle.fact_values.specs.Knowledge.{known_in};
@@ -8,20 +8,20 @@ ghost use Rattle.policy_model.specs.History.{Event, Opening};
 ghost use Rattle.policy_model.specs.History as event;
 ghost use Rattle.rule_values.specs.Kind.{kind_of};
 ghost use Rattle.object_model.specs.Tickets.{Ticket, IsTicketOf};
+ghost use Rattle.object_model.specs.Stands as model;
 ghost use Rattle.object_model.specs.Stands.{ticket_on};
 ghost use Rattle.object_model.specs.OfDesk.{KeepsOf};
 ghost use Rattle.assess.specs.Ask.{ask_of};
 ghost use Rattle.desk_state.specs.Stands.{plain, tables, facts_of, Stands};
-ghost use Rattle.desk_state.specs.Finished.{IsFinished, FinishesAfter, finished_so};
-ghost use Rattle.desk_state.specs.Judged.{IsJudged, IsJudgedOfDesk, IsLooked, IsLookedOfDesk, LooksAfter, IsSettled, settled_so};
+ghost use Rattle.desk_state.specs.Finished.{IsFinished, FinishesAfter};
+ghost use Rattle.desk_state.specs.Judged.{IsJudged, IsJudgedOfDesk, IsLooked, IsLookedOfDesk, LooksAfter, IsSettled, settled_on};
 
 use crate::answering::{answered, unsigned};
-use crate::deciding::decided_by;
 use crate::desk::Desk;
 use crate::finished::Finished;
 use crate::judged::{Judged, Looked};
 use crate::verdict::Origin;
-use assess::Ask;
+use assess::{Ask, decided_by};
 use fact_values::Facts;
 use object_cache::Entry;
 use object_model::laws::{
@@ -29,8 +29,7 @@ use object_model::laws::{
 };
 use policy_model::laws::one_outcome;
 use req_tree::Subject;
-use rule_values::Kind;
-use std::alloc::AllocError;
+use rule_values::{Kind, Rule};
 
 impl Desk {
     /// Begins an assessment and judges it at once, with one look at each rule and without memory: it is answered where
@@ -75,6 +74,9 @@ impl Desk {
         ensures { IsJudged result (ticket_on (plain self.now) (kind_of kind) (subject_of subject.now) keep (tables self.now).rows) }
     {
         one_outcome();
+        // without a value of this type the kit's borrow checker doesn't know the rule that is found
+        let rule: Option<&Rule> = None;
+        let _none = rule.is_none();
         let facts = self.facts_on(subject);
         let found = self.table.find(kind, subject, facts, self.moment);
         Judged {
@@ -84,7 +86,7 @@ impl Desk {
             at: self.moment,
             enabled: self.enabled,
             mark: self.objects.mark(kind),
-            outcome: decided_by(found, self.moment),
+            outcome: decided_by(&found),
         }
     }
 
@@ -95,21 +97,21 @@ impl Desk {
         self.facts.facts_of(&subject.cdhash)
     }
 
-    /// Finishes what was judged: the verdict is as of its beginning, and its outcome is offered to be kept. Where there
-    /// is no memory, nothing changes.
-    pub fn settle(&mut self, judged: Judged) -> Result<Finished, AllocError>
+    /// Finishes what was judged: the verdict is as of its beginning, and its outcome is offered to be kept.
+    pub fn settle(&mut self, judged: Judged) -> Finished
         requires { IsJudgedOfDesk (plain self.old) judged }
-        ensures settled { (t : Ticket) → IsJudged judged t → IfOk result (λ finished. IsFinished (plain self.old) t finished) }
-        ensures leaves { (t : Ticket) → IsJudged judged t → plain self.new ≡ finished_so result t (plain self.old) }
+        ensures says { IsSettled (plain self.old) judged result }
+        ensures makes { plain self.new ≡ settled_on judged (plain self.old) }
         ensures tables { tables self.new ≡ tables self.old }
         ensures of_desk { KeepsOf (plain self.old) (plain self.new) }
 
+        // As the ticket is finished that judges so.
+        ensures settled { (t : Ticket) → IsJudged judged t → IsFinished (plain self.old) t result }
+        ensures leaves { (t : Ticket) → IsJudged judged t → plain self.new ≡ model.finished t (plain self.old) }
+
         // After any history of this desk that has the ask.
-        ensures after { (o : Opening) (h : List Event) (k : ℕ) (t : Ticket) → Stands self.old o h → IsTicketOf t o h k → IsJudged judged t
-            → IfOk result (λ finished. FinishesAfter o h k t finished) }
-        ensures stands { (o : Opening) (h : List Event) (k : ℕ) (t : Ticket) → Stands self.old o h → IsTicketOf t o h k → IsJudged judged t
-            → OnOk result (Stands self.new o (h ++ event.offer k ∷ [])) }
-        ensures unchanged { (o : Opening) (h : List Event) → Stands self.old o h → OnErr result (Stands self.new o h) }
+        ensures after { (o : Opening) (h : List Event) (k : ℕ) (t : Ticket) → Stands self.old o h → IsTicketOf t o h k → IsJudged judged t → FinishesAfter o h k t result }
+        ensures stands { (o : Opening) (h : List Event) (k : ℕ) (t : Ticket) → Stands self.old o h → IsTicketOf t o h k → IsJudged judged t → Stands self.new o (h ++ event.offer k ∷ []) }
     {
         a_desk_goes_on_standing();
         a_ticket_is_enough();
@@ -117,18 +119,18 @@ impl Desk {
         self.settle_now(judged)
     }
 
-    fn settle_now(&mut self, judged: Judged) -> Result<Finished, AllocError>
+    fn settle_now(&mut self, judged: Judged) -> Finished
         requires { IsJudgedOfDesk (plain self.old) judged }
-        ensures settled { IfOk result (λ finished. IsSettled (plain self.old) judged finished) }
-        ensures leaves { plain self.new ≡ settled_so result judged (plain self.old) }
+        ensures says { IsSettled (plain self.old) judged result }
+        ensures makes { plain self.new ≡ settled_on judged (plain self.old) }
     {
         a_desk_is_fresh();
         let verdict = answered(judged.enabled, judged.at, &judged.outcome, Origin::Rules);
         let since = judged.mark;
         let inhibit = !judged.keep;
         let entry = entry_of(judged);
-        let offered = self.objects.offer(&entry, since, self.moment, inhibit)?;
-        Ok(Finished { verdict, offered })
+        let offered = self.objects.offer(&entry, since, self.moment, inhibit);
+        Finished { verdict, offered }
     }
 }
 

@@ -7,6 +7,7 @@ ghost use Rattle.code_facts.specs.Tables.{table_facts};
 ghost use Rattle.policy_model.specs.Tables.{Tables};
 ghost use Rattle.raw_tables.specs.Raw.{plain_tables};
 ghost use Rattle.store_model.specs.Kept.{IsKept};
+ghost use Rattle.store_model.specs.Upgraded.{upgraded};
 ghost use Rattle.policy_keeper.specs.Mirror.{Mirrors};
 ghost use Rattle.desk_state.specs.Loaded.{loaded, IsLoaded, IsLoadedAgain};
 ghost use Rattle.desk_state.specs.Stands.{tables, Stands};
@@ -37,8 +38,8 @@ impl Desk {
         // Over rows that the keeper tells: the desk's tables are what they mean, or their first bad row is refused.
         ensures loaded { IfSome (K.told keeper.new) (λ raw. IsLoaded raw result) }
 
-        // It tells what it told before, so tables that it mirrored are loaded again.
-        ensures same { IfSome (K.told keeper.new) (λ after. IfSome (K.told keeper.old) (λ before. before ≡ after)) }
+        // It tells what it told before, upgraded, so tables that it mirrored are loaded again.
+        ensures same { IfSome (K.told keeper.new) (λ after. IfSome (K.told keeper.old) (λ before. upgraded before ≡ after)) }
         ensures again { (t : Tables) → ∥ IsKept t ∥₁ → IsSome (K.told keeper.old) → Mirrors (K.told keeper.old) t → IsSome (K.told keeper.new) → IsLoadedAgain t result }
 
         // A failure of the keeper shows in its count, which never falls, and nothing else moves it.
@@ -64,13 +65,14 @@ impl Desk {
         stored_rows_mean_tables();
         kept_tables();
         let stored = read_store(alloc, raw)?;
+        let objects = Objects::with_room(alloc, MOST_ENTRIES)?;
         Ok(Desk {
             table: stored.table,
             receipts: stored.receipts,
             enabled: stored.enabled,
             moment: Moment::zero(),
             facts,
-            objects: Objects::new(alloc, MOST_ENTRIES),
+            objects,
         })
     }
 }

@@ -22,4 +22,4 @@ carry_out-requires-clause-kept g c =
 
 pub carry_out-requires-clause-fresh : goal.carry_out-requires-clause-fresh
 carry_out-requires-clause-fresh g c =
-    planned_fresh c.a_desk_is_fresh.ensures.edit c.first_ranks_purge.ensures.marks (plain c.args.self.now) (edit_of c.args.edit.now) c.in_ok-ready.ready c.args.self.now.own_ids c.requires.new c.in_ok-ready.ensures.ready c.args.self.now.fresh
+    planned_fresh c.a_desk_is_fresh.ensures.edit c.first_ranks_purge.ensures.marks c.first_ranks_purge.ensures.rings (plain c.args.self.now) (edit_of c.args.edit.now) c.in_ok-ready.ready c.args.self.now.own_ids c.requires.new c.in_ok-ready.ensures.ready c.args.self.now.fresh

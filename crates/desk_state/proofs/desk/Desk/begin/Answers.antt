@@ -23,11 +23,11 @@ returns-in-Some-clause-after c = λ o h s.
     (ok_map (IsBegun (plain c.args.self.now) (record { kind = kind_of c.args.ask.now.kind; subject = Some (subject_of c.in-Some.subject); keep = c.args.ask.now.keep })) _ c.begin_signed.result
     (begins_after c.a_desk_goes_on_standing.ensures.known c.a_desk_goes_on_standing.ensures.begin c.snapshots_judge_alike.ensures.alike (plain c.args.self.now) o h
     (record { kind = kind_of c.args.ask.now.kind; subject = Some (subject_of c.in-Some.subject); keep = c.args.ask.now.keep }) c.args.self.now.own_ids s)
-    c.begin_signed.ensures)
+    c.begin_signed.ensures.begun)
 
 pub returns-in-Some-clause-of_desk : goal.returns-in-Some-clause-of_desk
 returns-in-Some-clause-of_desk c =
     let a : Ask = record { kind = kind_of c.args.ask.now.kind; subject = Some (subject_of c.in-Some.subject); keep = c.args.ask.now.keep } in
     ok_map (IsBegun (plain c.args.self.now) a) (IsBegunOfDesk (plain c.args.self.now)) c.begin_signed.result
     (begun_of_desk c.what_was_judged_is_of_the_desk.ensures.begin c.snapshots_judge_alike.ensures.alike (plain c.args.self.now) a c.args.self.now.own_ids)
-    c.begin_signed.ensures
+    c.begin_signed.ensures.begun

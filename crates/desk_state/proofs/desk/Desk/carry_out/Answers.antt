@@ -1,13 +1,16 @@
-use Rattle.std.proofs.Common.{refl, Result, Ok, Err}
+use Rattle.std.proofs.Common.{◌≡◌, ◌+◌, [], ◌∷◌, length, refl, sym, ap, ◌∙◌, subst, Result, Ok, Err}
+use Rattle.std.proofs.lemmas.List.{length-append}
 use Rattle.policy_keeper.specs.declared.fault.KeepFault.{KeepFault}
 use Rattle.policy_keeper.specs.declared.fault.KeepFault.TheVariants.{Failed}
 use Rattle.std.proofs.Math.Logic.{∥∥₁_map}
 use Rattle.std.proofs.lemmas.Result.{err_from_is_err_and}
 use Rattle.policy_keeper.specs.Change.{change_of}
-use Rattle.desk_state.specs.Stands.{tables, plain}
-use Rattle.policy_keeper.proofs.Mirrored.{follows}
+use Rattle.desk_state.specs.Stands.{tables, moment_of, plain}
+use Rattle.object_cache.specs.Objects.{counts}
+use Rattle.desk_state.specs.Cache.{AreAtMost}
+use Rattle.desk_state.proofs.Purged.{objects_at_most}
 use Rattle.desk_state.proofs.Edited.{kept_with}
-use Rattle.desk_state.proofs.Keeps.{applies_telling}
+use Rattle.desk_state.proofs.Keeps.{applies_telling, follows}
 use Rattle.desk_state.proofs.StaysFresh.{carried_fresh}
 use Rattle.desk_state.proofs.desk.Desk.carry_out.Goals as goal
 
@@ -20,7 +23,12 @@ invariant_of-self-2-clause-kept g c =
     kept_with c.args.ready.plan c.args.ready.receipt (tables c.args.self.now) c.args.self.now.receipts c.keep_receipt.new.receipts _ refl c.commit.ensures c.in_ok-keep_receipt.ensures.ok c.requires.kept
 
 pub invariant_of-self-2-clause-fresh : goal.invariant_of-self-2-clause-fresh
-invariant_of-self-2-clause-fresh g c = carried_fresh c.args.ready.plan c.args.ready.receipt (plain c.args.self.now) _ _ c.commit.ensures c.purge.ensures.cache c.requires.fresh
+invariant_of-self-2-clause-fresh g c = carried_fresh c.args.ready.plan c.args.ready.receipt (plain c.args.self.now) _ _ c.commit.ensures (c.purge.ensures.cache (moment_of c.args.self.now)) c.requires.fresh
+
+pub invariant_of-self-2-clause-marks : goal.invariant_of-self-2-clause-marks
+invariant_of-self-2-clause-marks g c =
+    let more : length c.args.self.now.receipts + 1 ≡ length c.keep_receipt.new.receipts = sym (ap length c.in_ok-keep_receipt.ensures.ok ∙ length-append c.args.self.now.receipts (c.args.ready.receipt ∷ [])) in
+    subst (λ n. AreAtMost n (counts c.purge.new.objects)) more (objects_at_most (length c.args.self.now.receipts) 0 c.args.ready.plan.rows c.args.self.now.objects c.purge.new.objects (c.purge.ensures.cache 0) c.args.self.now.marks)
 
 pub returns-clause-follows : goal.returns-clause-follows
 returns-clause-follows g c =

@@ -7,5 +7,5 @@ use Rattle.desk_tests.proofs.kept_desk.KeptDesk.finish.Goals as goal
 
 pub invariant_of-self : goal.invariant_of-self
 invariant_of-self c = record {
-  mirrors = still_mirrored (Some (kept c.args.self.now.keeper)) c.finish.result (ticket_of c.args.ticket) (plain c.args.self.now.desk) (plain c.finish.new.self) c.finish.ensures.leaves c.args.self.now.mirrors;
+  mirrors = still_mirrored (Some (kept c.args.self.now.keeper)) (ticket_of c.args.ticket) (plain c.args.self.now.desk) (plain c.finish.new.self) c.finish.ensures.leaves c.args.self.now.mirrors;
 }

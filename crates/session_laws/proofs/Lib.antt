@@ -1,0 +1,7 @@
+mod GoesOn
+mod ItsLine
+mod StaysKept
+mod OneAsked
+mod OneSession
+mod EachLine
+mod SomeSession
