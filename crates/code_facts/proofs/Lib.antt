@@ -4,8 +4,7 @@ pub mod Soundness
 pub mod Listing
 pub mod OidBytes
 pub mod FileLemmas
-pub mod RecordLemmas
 pub mod RowLemmas
-pub mod RecordsExist
+pub mod Refusals
 pub mod TableLemmas
 mod WorkedRows

@@ -2,7 +2,6 @@ pub mod OidText
 pub mod Rows
 pub mod FactsFile
 pub mod Knowledge
-pub mod Reading
 pub mod RowCode
 pub mod Growing
 pub mod Tables

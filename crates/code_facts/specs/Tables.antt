@@ -13,7 +13,7 @@ use Rattle.code_facts.specs.Rows.{Given, Fact, flag, anchor_name, code_name, cer
 use Rattle.code_facts.specs.FactsFile.{facts_about, certs, is_there, is_item, rows_of_records}
 use Rattle.code_facts.specs.Knowledge.{givens, facts_in}
 use Rattle.code_facts.specs.Growing.{grown}
-use Rattle.code_facts.specs.Reading.{HasRecords}
+use Rattle.csv_records.specs.Reading.{HasRecords}
 
 -- the facts of a file's bytes
 pub record IsFactsFile (bytes : List ℕ) (facts : Facts) : Type 0 where

@@ -3,9 +3,9 @@
 use crate::fault::FactFault;
 use crate::limits::MOST_ROWS;
 use crate::record::{is_header, read_row};
-use crate::records::{next_record, records_of};
 use crate::table::FactTable;
-use csv::ByteRecord;
+use csv_records::laws::a_text_has_one_list_of_records;
+use csv_records::{ByteRecord, next_record, records_of};
 use std::alloc::Global;
 
 impl FactTable {
@@ -22,6 +22,7 @@ impl FactTable {
         ensures found { IfOk result (λ table. IsFactsFile bytes.now (table_facts table)) }
         ensures first { IfErr result (λ fault. fault ≢ FactFault.OutOfMemory → IsFirstFault bytes.now fault) }
     {
+        a_text_has_one_list_of_records();
         let mut reader = records_of(alloc, bytes);
         let mut fields = ByteRecord::new(alloc);
         if !next_record(&mut reader, &mut fields)? {

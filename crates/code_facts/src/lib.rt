@@ -7,7 +7,6 @@ mod growing;
 pub mod laws;
 mod limits;
 mod record;
-mod records;
 mod row;
 mod scope;
 mod slot;

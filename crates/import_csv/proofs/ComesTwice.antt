@@ -3,7 +3,7 @@ use Rattle.std.proofs.Common.{◌≡◌, ◌⊎◌, inl, inr, ℕ, ◌+◌, leng
 use Rattle.std.specs.Prelude.{⊤}
 use Rattle.std.specs.Option.{option_or, option_map}
 use Rattle.std.proofs.lemmas.List.Folds.{find-append}
-use Rattle.code_facts.proofs.Bits.{bytes_same}
+use Rattle.std.proofs.lemmas.Slice.Eq.{bytes_eq-Decides}
 use Rattle.policy_model.specs.Rules.{Row}
 use Rattle.policy_model.specs.Contents.{Content, add, remove, enable, disable, expire, switch, Edit}
 use Rattle.policy_model.specs.Texts.{content_text}
@@ -72,7 +72,7 @@ key_stays e t key h = by_key (kept t.receipts e.key)
 last_kept : (receipts : List Receipt) (new : Receipt) → kept receipts new.key ≡ None → kept (receipts ++ new ∷ []) new.key ≡ Some new
 last_kept receipts new none =
     find-append (λ (r : Receipt). bytes_eq r.key new.key) receipts (new ∷ []) ∙ ap (λ (o : Option Receipt). option_or o (kept (new ∷ []) new.key)) none
-    ∙ itself (bytes_eq new.key new.key) (bytes_same new.key new.key refl)
+    ∙ itself (bytes_eq new.key new.key) ((bytes_eq-Decides new.key new.key).1 refl)
   where
     itself : (b : Bool) → b ≡ true → cond b (Some new) None ≡ Some new
     itself true e = refl

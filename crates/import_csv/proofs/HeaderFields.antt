@@ -1,7 +1,7 @@
 -- The header of an import file, field by field.
 use Rattle.std.proofs.Common.{◌≡◌, ℕ, List, [], ◌∷◌, length, Bool, true, false, ◌&&◌, codes, bytes_eq, refl, sym, subst, arith}
 use Rattle.csv.specs.Records.{field_at}
-use Rattle.code_facts.proofs.Bits.{same_bytes}
+use Rattle.std.proofs.lemmas.Slice.Eq.{bytes_eq-Decides}
 use Rattle.import_csv.specs.ImportRows.{field_or_none}
 use Rattle.import_csv.specs.ImportFile.{header}
 
@@ -40,14 +40,14 @@ header_by (a ∷ b ∷ c ∷ d ∷ e ∷ f ∷ g ∷ h ∷ []) n t =
     let all = all_of (bytes_eq a (codes "key")) (bytes_eq b (codes "type")) (bytes_eq c (codes "verdict")) (bytes_eq d (codes "priority"))
     (bytes_eq e (codes "expires")) (bytes_eq f (codes "label")) (bytes_eq g (codes "flags")) (bytes_eq h (codes "requirement")) t in
     rw (
-      same_bytes a (codes "key") all.0,
-      same_bytes b (codes "type") all.1,
-      same_bytes c (codes "verdict") all.2,
-      same_bytes d (codes "priority") all.3,
-      same_bytes e (codes "expires") all.4,
-      same_bytes f (codes "label") all.5,
-      same_bytes g (codes "flags") all.6,
-      same_bytes h (codes "requirement") all.7,
+      (bytes_eq-Decides a (codes "key")).0 all.0,
+      (bytes_eq-Decides b (codes "type")).0 all.1,
+      (bytes_eq-Decides c (codes "verdict")).0 all.2,
+      (bytes_eq-Decides d (codes "priority")).0 all.3,
+      (bytes_eq-Decides e (codes "expires")).0 all.4,
+      (bytes_eq-Decides f (codes "label")).0 all.5,
+      (bytes_eq-Decides g (codes "flags")).0 all.6,
+      (bytes_eq-Decides h (codes "requirement")).0 all.7,
     ) refl
 header_by (a ∷ b ∷ c ∷ d ∷ e ∷ f ∷ g ∷ h ∷ i ∷ rest) n t = absurd (omega arith)
 

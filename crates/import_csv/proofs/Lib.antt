@@ -4,3 +4,4 @@ pub mod OneRow
 pub mod OneImport
 pub mod ComesTwice
 pub mod Refused
+pub mod EachImport

@@ -1,8 +1,8 @@
 -- Bytes ask for one list of edits, or have one first fault.
 use Rattle.std.proofs.Common.{◌≡◌, ℕ, ◌<◌, ◌≤◌, List, [], ◌∷◌, ◌++◌, length, Result, Ok, Err, refl, sym, ap, subst, arith}
 use Rattle.std.proofs.lemmas.List.{length-append}
-use Rattle.code_facts.specs.Reading.{HasRecords}
-use Rattle.code_facts.proofs.FileLemmas.{one_list}
+use Rattle.csv_records.specs.Reading.{HasRecords}
+use Rattle.csv_records.specs.Laws.{OneListOfRecords}
 use Rattle.req_grammar.specs.Laws.{OneTree}
 use Rattle.policy_model.specs.Contents.{Edit}
 use Rattle.import_csv.specs.declared.fault.ImportFault.TheVariants.{BadHeader, BadRow, TooMany, OutOfMemory}
@@ -20,14 +20,6 @@ head_same x y xs ys e = cc
 tail_same : (x y : Fields) (xs ys : List Fields) → x ∷ xs ≡ y ∷ ys → xs ≡ ys
 tail_same x y xs ys e = cc
 
-rows_same : (bytes : List ℕ) (xs ys : List Fields) → HasRecords bytes (header ∷ xs) → HasRecords bytes (header ∷ ys) → xs ≡ ys
-rows_same bytes xs ys a b = sym (tail_same header header ys xs (one_list bytes (header ∷ xs) (header ∷ ys) a b))
-
-has_header : (bytes : List ℕ) (rows records : List Fields) → HasRecords bytes (header ∷ rows) → HasRecords bytes records → LacksHeader records → ⊥
-has_header bytes rows records a b lacks =
-    let no : header ≡ header → ⊥ = subst LacksHeader (one_list bytes (header ∷ rows) records a b) lacks in
-    no refl
-
 -- a row among rows that ask for edits asks for one
 asks_inside : (front : List Fields) (next : Fields) (more : List Fields) (edits : List Edit) → AskFor (front ++ next ∷ more) edits → (e : Edit) × IsRow next (Ok e)
 asks_inside [] next more [] h = absurd h
@@ -41,7 +33,15 @@ ok_is a b e = cc
 err_is : (c d : ℕ) → ◌≡◌ {A = Result Edit ℕ} (Err c) (Err d) → c ≡ d
 err_is c d e = cc
 
-module _ (one : OneTree) (alone : FailsAlone) where
+module _ (lists : OneListOfRecords) (one : OneTree) (alone : FailsAlone) where
+  rows_same : (bytes : List ℕ) (xs ys : List Fields) → HasRecords bytes (header ∷ xs) → HasRecords bytes (header ∷ ys) → xs ≡ ys
+  rows_same bytes xs ys a b = sym (tail_same header header ys xs (lists bytes (header ∷ xs) (header ∷ ys) a b))
+
+  has_header : (bytes : List ℕ) (rows records : List Fields) → HasRecords bytes (header ∷ rows) → HasRecords bytes records → LacksHeader records → ⊥
+  has_header bytes rows records a b lacks =
+      let no : header ≡ header → ⊥ = subst LacksHeader (lists bytes (header ∷ rows) records a b) lacks in
+      no refl
+
   edits_same : (rows : List Fields) (a b : List Edit) → AskFor rows a → AskFor rows b → a ≡ b
   edits_same [] [] [] h k = refl
   edits_same [] [] (y ∷ ys) h k = absurd k

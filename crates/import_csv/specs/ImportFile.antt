@@ -1,7 +1,7 @@
 -- A whole import file: the edits that its rows ask for, and what is wrong first. This project's own; records are those
 -- of RFC 4180 as `csv` reads them.
 use Rattle.std.specs.Prelude.{◌≡◌, ◌≢◌, ⊤, ℕ, ◌+◌, ◌<◌, ◌≤◌, List, [], ◌∷◌, ◌++◌, length, Ok, Err, codes}
-use Rattle.code_facts.specs.Reading.{HasRecords}
+use Rattle.csv_records.specs.Reading.{HasRecords}
 use Rattle.policy_model.specs.Contents.{Edit}
 use Rattle.import_csv.specs.declared.limits.TheConstants.{MOST_IMPORTED}
 use Rattle.import_csv.specs.declared.fault.ImportFault.{ImportFault}

@@ -15,3 +15,7 @@ ImportHasNoFault = (bytes : List ℕ) (edits : List Edit) (fault : ImportFault) 
 -- bytes have one first fault at most
 abbrev pub FirstFaultIsOne : Type 0
 FirstFaultIsOne = (bytes : List ℕ) (a b : ImportFault) → IsFirstFault bytes a → IsFirstFault bytes b → a ≡ b
+
+-- no bytes are neither an import nor at fault
+abbrev pub NoBytesAreNeither : Type 0
+NoBytesAreNeither = (bytes : List ℕ) → ((edits : List Edit) → IsImport bytes edits → ⊥) → ((fault : ImportFault) → IsFirstFault bytes fault → ⊥) → ⊥

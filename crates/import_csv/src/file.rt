@@ -9,9 +9,9 @@ ghost use Rattle.import_csv.specs.RowCode.{edits_of, TakesRow};
 use crate::fault::ImportFault;
 use crate::limits::MOST_IMPORTED;
 use crate::list::Edits;
-use crate::records::{next_record, records_of};
 use crate::row::{is_header, read_row};
-use csv::ByteRecord;
+use csv_records::laws::a_text_has_one_list_of_records;
+use csv_records::{ByteRecord, next_record, records_of};
 use std::alloc::Global;
 
 /// The edits that the rows of a file ask for, one a row, or what is wrong first.
@@ -19,6 +19,7 @@ pub fn read_rules(alloc: Global, bytes: &[u8]) -> Result<Edits, ImportFault>
     ensures found { IfOk result (λ edits. IsImport bytes.now (edits_of edits)) }
     ensures first { IfErr result (λ fault. fault ≢ ImportFault.OutOfMemory → IsFirstFault bytes.now fault) }
 {
+    a_text_has_one_list_of_records();
     let mut reader = records_of(alloc, bytes);
     let mut fields = ByteRecord::new(alloc);
     if !next_record(&mut reader, &mut fields)? {

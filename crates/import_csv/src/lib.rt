@@ -6,7 +6,6 @@ mod file;
 pub mod laws;
 mod limits;
 mod list;
-mod records;
 mod row;
 
 pub use fault::ImportFault;

@@ -6,12 +6,14 @@ use Rattle.req_grammar.specs.Laws.{OneTree}
 use Rattle.req_tokens.specs.declared.fault.TextFault.{TextFault}
 use Rattle.req_tokens.specs.declared.fault.TextFault.TheVariants.{OutOfMemory}
 use Rattle.req_parser.specs.Failures.{FailsText}
+use Rattle.req_parser.specs.Laws.{OneFault}
 use Rattle.policy_model.specs.Contents.{Content, add, Edit}
 use Rattle.line_model.specs.LineFaults.{LineFault}
 use Rattle.line_model.specs.Fronts.{new_row}
 use Rattle.line_model.specs.Contents.{Worded, whole, adds, content_at}
-use Rattle.line_model.specs.Edits.{Edited, edit_at, Makes, keyed, IsContent, IsEdit, by_words}
-use Rattle.line_laws.specs.Laws.{TextAsksForOneContent, LineAsksForOneEdit, ContentHasNoFault, EditHasNoFault}
+use Rattle.line_model.specs.Requirements.{ReadsAs}
+use Rattle.line_model.specs.Edits.{Edited, edit_at, made, Makes, keyed, IsContent, IsEdit, by_words}
+use Rattle.line_laws.specs.Laws.{TextAsksForOneContent, LineAsksForOneEdit, ContentHasNoFault, EditHasNoFault, ContentIsAskedOnce, EditIsAskedOnce}
 
 ok_is : {A : Type 0} (a b : A) → ◌≡◌ {A = Result A LineFault} (Ok a) (Ok b) → a ≡ b
 ok_is a b e = cc
@@ -63,3 +65,22 @@ module _ (apart : (text : List ℕ) (fault : TextFault) (tree : Tree) → fault 
 
   pub edit_has_no_fault : EditHasNoFault
   edit_has_no_fault line e fault x y = edit_no_fault (by_words edit_at line) e fault x y
+
+module _ (one_tree : OneTree) (apart : (text : List ℕ) (fault : TextFault) (tree : Tree) → fault ≢ OutOfMemory → FailsText text fault → IsRequirementText text tree → ⊥) (one_fault : OneFault) where
+  read_once : (text : List ℕ) (a b : Result Tree TextFault) → ReadsAs text a → ReadsAs text b → a ≡ b
+  read_once text (Ok s) (Ok t) x y = ap Ok (one_tree text s t x y)
+  read_once text (Ok s) (Err fault) x y = absurd (apart text fault s y.1 y.0 x)
+  read_once text (Err fault) (Ok t) x y = absurd (apart text fault t x.1 x.0 y)
+  read_once text (Err fault) (Err other) x y = ap Err (one_fault text fault other x.1 y.1 x.0 y.0)
+
+  made_once : {A : Type 0} (make : Content → A) (worded : Worded) (a b : Result A LineFault) → Makes make worded a → Makes make worded b → a ≡ b
+  made_once make (whole content) a b x y = x ∙ sym y
+  made_once make (adds front text) a b (r, reads, x) (q, so, y) = x ∙ (ap (made make front text) (read_once text r q reads so) ∙ sym y)
+
+  pub content_asked_once : ContentIsAskedOnce
+  content_asked_once (Err fault) a b x y = x ∙ sym y
+  content_asked_once (Ok worded) a b x y = made_once (λ content. content) worded a b x y
+
+  pub edit_asked_once : EditIsAskedOnce
+  edit_asked_once (Err fault) a b x y = x ∙ sym y
+  edit_asked_once (Ok edited) a b x y = made_once (keyed edited.key) edited.worded a b x y

@@ -1,11 +1,12 @@
 -- What is read back of a line; each is proved on a function of src/laws.rt.
-use Rattle.std.specs.Prelude.{◌≡◌, ◌≢◌, ℕ, List, [], All, true, Ok, Err}
+use Rattle.std.specs.Prelude.{◌≡◌, ◌≢◌, ℕ, List, [], All, true, Result, Ok, Err}
 use Rattle.policy_model.specs.Keys.{is_key}
 use Rattle.policy_model.specs.Contents.{Content, Edit}
 use Rattle.policy_model.specs.Texts.{content_text}
 use Rattle.line_model.specs.Words.{words, spaced}
 use Rattle.line_model.specs.LineFaults.{LineFault}
-use Rattle.line_model.specs.Edits.{IsContentLine, IsEditLine}
+use Rattle.line_model.specs.Contents.{Worded}
+use Rattle.line_model.specs.Edits.{Edited, IsContent, IsContentLine, IsEdit, IsEditLine}
 use Rattle.line_laws.specs.Limits.{FitsLine}
 use Rattle.line_laws.specs.EditTexts.{edit_text}
 
@@ -40,3 +41,11 @@ ContentHasNoFault = (text : List ℕ) (c : Content) (fault : LineFault) → IsCo
 -- a line that asks for an edit has no fault
 abbrev pub EditHasNoFault : Type 0
 EditHasNoFault = (line : List ℕ) (e : Edit) (fault : LineFault) → IsEditLine line (Ok e) → IsEditLine line (Err fault) → ⊥
+
+-- what the words of a content ask for, or their fault, is one: a fault's place and number included
+abbrev pub ContentIsAskedOnce : Type 0
+ContentIsAskedOnce = (words : Result Worded LineFault) (a b : Result Content LineFault) → IsContent words a → IsContent words b → a ≡ b
+
+-- what the words of an edit ask for, or their fault, is one: a fault's place and number included
+abbrev pub EditIsAskedOnce : Type 0
+EditIsAskedOnce = (words : Result Edited LineFault) (a b : Result Edit LineFault) → IsEdit words a → IsEdit words b → a ≡ b

@@ -1,11 +1,11 @@
 //! Laws over the definitions: functions that do nothing and whose contracts are the laws.
 
 ghost use Rattle.line_laws.specs.WordLaws.{BytesReadBack, LabelReadsBack, NameReadsBack, MomentReadsBack, ExpiryReadsBack, NumberReadsBack, PriorityReadsBack, KindReadsBack, AnyKindReadsBack, VerdictReadsBack, FlagsReadBack, BytesPrintAsWord, ExpiryPrintsAsWord, PriorityPrintsAsWord, KindPrintsAsWord, VerdictPrintsAsWord, FlagsPrintAsWord};
-ghost use Rattle.line_laws.specs.Laws.{WordsReadBack, ContentReadsBack, EditReadsBack, TextAsksForOneContent, LineAsksForOneEdit, TextIsOfOneContent, ContentHasNoFault, EditHasNoFault};
+ghost use Rattle.line_laws.specs.Laws.{WordsReadBack, ContentReadsBack, EditReadsBack, TextAsksForOneContent, LineAsksForOneEdit, TextIsOfOneContent, ContentHasNoFault, EditHasNoFault, ContentIsAskedOnce, EditIsAskedOnce};
 
 use policy_model::laws::places_are_the_fraction;
 use req_grammar::laws::texts_say_one_tree;
-use req_parser::laws::a_failing_text_is_no_requirement;
+use req_parser::laws::{a_failing_text_is_no_requirement, a_text_has_one_fault};
 
 /// Bytes and labels are read back from the words that they print as.
 pub fn labels_read_back()
@@ -75,6 +75,16 @@ pub fn what_is_asked_has_no_fault()
     ensures edit { EditHasNoFault }
 {
     a_failing_text_is_no_requirement();
+}
+
+/// What the words of a content or of an edit ask for is one thing, or their fault is one.
+pub fn one_thing_is_asked()
+    ensures content { ContentIsAskedOnce }
+    ensures edit { EditIsAskedOnce }
+{
+    a_failing_text_is_no_requirement();
+    a_text_has_one_fault();
+    texts_say_one_tree();
 }
 
 /// A canonical text is that of one content.

@@ -2,6 +2,7 @@
 use Rattle.std.specs.Prelude.{◌≡◌, Option, Some, IfSome, Result, MatchResult}
 use Rattle.policy_model.specs.Tables.{Tables}
 use Rattle.store_model.specs.Raw.{RawTables}
+use Rattle.store_model.specs.Upgraded.{upgraded}
 use Rattle.store_model.specs.Stored.{Holds}
 use Rattle.store_model.specs.Accepted.{Accepts}
 use Rattle.store_model.specs.Change.{Change, Takes, raw_after}
@@ -17,13 +18,13 @@ Told = Option RawTables
 abbrev pub Stays : Told → Told → Type 0
 Stays old new = IfSome new (λ after. old ≡ Some after)
 
--- rows that are told after a load are those that it gave, and they are as before if they were told then
+-- rows that are told after a load are those that it gave; if rows were told before, they are those, upgraded
 abbrev pub Gives : Told → Told → RawTables → Type 0
-Gives old new given = IfSome new (λ after. (given ≡ after) × IfSome old (λ before. before ≡ after))
+Gives old new given = IfSome new (λ after. (given ≡ after) × IfSome old (λ before. upgraded before ≡ after))
 
--- rows that are told after a change were told before it, and are those with the change made
+-- rows that are told after a change are those that were told before it, upgraded, with the change made
 abbrev pub Makes : Told → Told → Change → Type 0
-Makes old new change = IfSome new (λ after. (before : RawTables) × (old ≡ Some before) × (after ≡ raw_after change before))
+Makes old new change = IfSome new (λ after. (before : RawTables) × (old ≡ Some before) × (after ≡ raw_after change (upgraded before)))
 
 -- a load gives the rows, or changes nothing
 abbrev pub Loads : Told → Told → Result code.RawTables KeepFault → Type 0

@@ -5,9 +5,7 @@ mod change;
 mod fault;
 mod keeper;
 pub mod laws;
-mod mirror;
 
 pub use change::{Change, added_rule, expiry_number, kind_number};
 pub use fault::KeepFault;
 pub use keeper::Keeper;
-pub use mirror::hand_over;

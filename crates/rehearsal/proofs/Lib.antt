@@ -5,3 +5,4 @@ pub mod RowTexts
 pub mod SessionText
 pub mod Steps
 mod WorkedRows
+mod OneLine

@@ -2,6 +2,7 @@ pub mod Counts
 pub mod Draws
 pub mod Facts
 pub mod Laid
+pub mod Laws
 pub mod Left
 pub mod Made
 pub mod Pieces

@@ -42,6 +42,7 @@ impl Rehearsal {
         ensures made { result ≡ true → lines_left self.old ≡ line_bytes self.new.draft.line ∷ lines_left self.new }
         ensures fewer { result ≡ true → self.old.left ≡ self.new.left + 1 }
         ensures all { result ≡ false → lines_left self.old ≡ [] }
+        ensures ended { result ≡ false → lines_left self.new ≡ [] }
     {
         if self.left == 0 {
             return false;

@@ -5,6 +5,7 @@ mod course;
 mod draft;
 mod facts;
 mod hash;
+pub mod laws;
 mod line;
 mod pieces;
 mod saying;

@@ -1,0 +1,2 @@
+mod ByRank
+mod OneText

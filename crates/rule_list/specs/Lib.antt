@@ -1,1 +1,2 @@
 pub mod ListText
+pub mod Laws

@@ -1,6 +1,7 @@
 //! The text of all rules, as an administrator reads it.
 #![tactic(auto)]
 
+pub mod laws;
 mod list;
 mod row_text;
 mod word;

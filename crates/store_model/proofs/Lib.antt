@@ -3,7 +3,9 @@ mod Numbers
 mod Trees
 mod Changes
 mod Refusals
+mod Upgrading
 mod Meaning
 mod Kept
+mod ReadAgain
 mod WorkedBounds
 mod WorkedStores

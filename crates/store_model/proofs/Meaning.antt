@@ -14,7 +14,7 @@ use Rattle.policy_model.specs.Tables.{Receipt, Tables}
 use Rattle.store_model.specs.declared.limits.TheConstants.{STORE_FORMAT}
 use Rattle.store_model.specs.Raw.{RawReceipt, RawRule, RawTables}
 use Rattle.store_model.specs.Stored.{kind_number, bool_number, flags_number, raw_receipt, raw_rule, raw_of_tables, Holds}
-use Rattle.store_model.specs.Accepted.{IsStoredReceipt, AreNumbered, AcceptsReceipts, IsAdded, IsStoredRule, Accepts}
+use Rattle.store_model.specs.Accepted.{IsStoredReceipt, AreNumbered, AcceptsReceipts, IsAdded, IsStoredRule, MeetsRules, Accepts}
 use Rattle.store_model.specs.Laws.{RowsMeanOne, AcceptedRowsMeanSome, AcceptedRowsMeanKept}
 use Rattle.store_model.proofs.Numbers.{kind_back, bool_back, default_back, inhibit_back, kind_returns, bool_returns, default_returns, inhibit_returns, end_returns, not_below, bool_stays, kind_stays, flags_again, flags_stay, end_stays}
 use Rattle.store_model.proofs.Trees.{HasTree}
@@ -181,4 +181,4 @@ accepted_rows_mean_some raw h =
     (tables_back raw rows, tables_hold raw h rows)
 
 pub accepted_rows_mean_kept : AcceptedRowsMeanKept
-accepted_rows_mean_kept raw t h holds = record { accepted = subst Accepts holds.stored h; trees = holds.trees }
+accepted_rows_mean_kept raw t h holds = record { accepted = subst MeetsRules holds.stored h; trees = holds.trees }

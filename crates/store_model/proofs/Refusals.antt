@@ -1,12 +1,14 @@
 -- A store is refused at one place, and only where it isn't accepted.
-use Rattle.std.proofs.Common.{◌≡◌, ◌+◌, ◌<◌, ℤ, List, [], ◌∷◌, ◌++◌, length, get_or, refl, sym, ap, ◌∙◌, subst, arith, inl, inr, append_assoc}
+use Rattle.std.proofs.Common.{◌≡◌, ◌+◌, ◌<◌, ℤ, List, [], ◌∷◌, ◌++◌, length, get_or, refl, sym, ap, ◌∙◌, subst, arith, inl, inr, append_assoc, append-nil}
 use Rattle.std.specs.Prelude.{All, AllPairs, pos, ◌<ℤ◌, ◌≢◌}
 use Rattle.std.proofs.lemmas.Bool.{cases_order}
 use Rattle.std.proofs.lemmas.List.{length-append, get_or_append_left}
-use Rattle.store_model.specs.Raw.{RawReceipt, RawRule, RawTables, format_row, switch_row, receipt_row, rule_row}
-use Rattle.store_model.specs.Accepted.{IsStoredReceipt, AcceptsReceipts, IsStoredRule, AcceptsRules}
-use Rattle.store_model.specs.Refused.{IsFirstBad, IsRefusedAt}
-use Rattle.store_model.specs.Laws.{AcceptedIsNotRefused, RefusedOnce}
+use Rattle.std.proofs.lemmas.List.Elements.{All-nil}
+use Rattle.store_model.specs.Raw.{RawReceipt, RawRule, RawTables, StoreRow, format_row, switch_row, receipt_row, rule_row}
+use Rattle.store_model.specs.Accepted.{IsStoredReceipt, AcceptsReceipts, IsStoredRule, AcceptsRules, MeetsRules}
+use Rattle.store_model.specs.Upgraded.{upgraded}
+use Rattle.store_model.specs.Refused.{IsFirstBad, BreaksRulesAt, IsRefusedAt}
+use Rattle.store_model.specs.Laws.{AcceptedIsNotRefused, RefusedOnce, AcceptedOrRefused}
 
 -- what is good stays so without its end
 abbrev IsClosed : {X : Type 0} → (List X → Type 0) → Type 0
@@ -108,3 +110,35 @@ refused_once raw (rule_row n) format_row h k = absurd (k h.0)
 refused_once raw (rule_row n) switch_row h k = absurd (k.1 h.1)
 refused_once raw (rule_row n) (receipt_row m) h k = absurd (receipt_or_rule raw m n k h)
 refused_once raw (rule_row n) (rule_row m) h k = ap rule_row (same_rule raw n m h k)
+
+-- a list without a first bad element, whose fronts are good so far, is good, or nothing is so
+no_bad : {X : Type 0} (Good : List X → Type 0) (xs before rest : List X) → xs ≡ before ++ rest → Good before → ((x : X) → IsFirstBad Good xs x → ⊥) → (Good xs → ⊥) → ⊥
+no_bad Good xs before [] split good never bad = bad (subst Good (sym (split ∙ append-nil before)) good)
+no_bad Good xs before (x ∷ rest) split good never bad =
+    never x (record {
+      before = before;
+      behind = rest;
+      split = split;
+      good = good;
+      bad = λ longer. no_bad Good xs (before ++ x ∷ []) rest (split ∙ sym (append_assoc before (x ∷ []) rest)) longer never bad;
+    })
+
+no_receipts : AcceptsReceipts []
+no_receipts = record { numbered = λ k d lt. absurd (omega (arith, lt)); most = omega arith; each = All-nil IsStoredReceipt; keys = λ i j d lt in'. absurd (omega (arith, in')) }
+
+no_rules : (receipts : List RawReceipt) → AcceptsRules receipts []
+no_rules receipts = record { rising = λ i j d lt in'. absurd (omega (arith, in')); most = omega arith; each = All-nil (IsStoredRule receipts) }
+
+meets_or_breaks : (raw : RawTables) → (MeetsRules raw → ⊥) → ((row : StoreRow) → BreaksRulesAt raw row → ⊥) → ⊥
+meets_or_breaks raw bad never =
+    never format_row (λ format.
+    never switch_row (
+      format,
+      λ switch.
+          no_bad AcceptsReceipts raw.receipts [] raw.receipts refl no_receipts (λ r first. never (receipt_row r.num) (format, switch, (r, refl, first))) (λ receipts.
+          no_bad (AcceptsRules raw.receipts) raw.rules [] raw.rules refl (no_rules raw.receipts) (λ r first. never (rule_row r.id) (format, switch, receipts, (r, refl, first))) (λ rules.
+          bad (record { format = format; switch = switch; receipts = receipts; rules = rules }))),
+    ))
+
+pub accepted_or_refused : AcceptedOrRefused
+accepted_or_refused raw bad never = meets_or_breaks (upgraded raw) bad never

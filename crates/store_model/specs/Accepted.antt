@@ -7,6 +7,7 @@ use Rattle.policy_model.specs.Contents.{IsRuleText}
 use Rattle.policy_model.specs.Keys.{is_key}
 use Rattle.store_model.specs.declared.limits.TheConstants.{STORE_FORMAT}
 use Rattle.store_model.specs.Raw.{RawReceipt, RawRule, RawTables}
+use Rattle.store_model.specs.Upgraded.{upgraded}
 use Rattle.store_model.specs.Contents.{IsContentText, IsAddText}
 
 -- from least to most, both included
@@ -68,9 +69,13 @@ pub record AcceptsRules (receipts : List RawReceipt) (rules : List RawRule) : Ty
   pub most : length rules ≤ MOST_RULES
   pub each : All (IsStoredRule receipts) rules
 
--- the stored rows are accepted
-pub record Accepts (raw : RawTables) : Type 0 where
+-- rows of this format meet its rules
+pub record MeetsRules (raw : RawTables) : Type 0 where
   pub format : HasFormat raw
   pub switch : HasSwitch raw
   pub receipts : AcceptsReceipts raw.receipts
   pub rules : AcceptsRules raw.receipts raw.rules
+
+-- the stored rows are accepted: as this format has them, they meet its rules
+abbrev pub Accepts : RawTables → Type 0
+Accepts raw = MeetsRules (upgraded raw)

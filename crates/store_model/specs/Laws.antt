@@ -1,11 +1,12 @@
 -- What follows from the definitions alone; each is proved on a function of src/laws.rt.
-use Rattle.std.specs.Prelude.{◌≡◌, List, All}
+use Rattle.std.specs.Prelude.{◌≡◌, ◌↔◌, List, All}
 use Rattle.policy_model.specs.Contents.{Edit}
 use Rattle.policy_model.specs.Tables.{Tables}
 use Rattle.policy_model.specs.Edits.{does}
 use Rattle.policy_model.specs.History.{Event, tables_after, HasOwnIds, HasOwnKeys}
 use Rattle.line_laws.specs.Limits.{FitsLine}
 use Rattle.store_model.specs.Raw.{RawTables, StoreRow}
+use Rattle.store_model.specs.Upgraded.{upgraded}
 use Rattle.store_model.specs.Stored.{raw_of_tables, Holds}
 use Rattle.store_model.specs.Accepted.{Accepts}
 use Rattle.store_model.specs.Refused.{IsRefusedAt}
@@ -28,6 +29,26 @@ KeptIdsAreOwn = (t : Tables) → IsKept t → HasOwnIds t
 abbrev pub KeptKeysAreOwn : Type 0
 KeptKeysAreOwn = (t : Tables) → IsKept t → HasOwnKeys t
 
+-- rows that this format has are not upgraded again
+abbrev pub UpgradedStays : Type 0
+UpgradedStays = (raw : RawTables) → upgraded (upgraded raw) ≡ upgraded raw
+
+-- nor are the rows in which tables are stored
+abbrev pub StoredStays : Type 0
+StoredStays = (t : Tables) → upgraded (raw_of_tables t) ≡ raw_of_tables t
+
+-- upgraded rows mean what they meant before
+abbrev pub UpgradedMeansTheSame : Type 0
+UpgradedMeansTheSame = (raw : RawTables) (t : Tables) → Holds (upgraded raw) t ↔ Holds raw t
+
+-- they are accepted where they were accepted
+abbrev pub UpgradedIsAccepted : Type 0
+UpgradedIsAccepted = (raw : RawTables) → Accepts (upgraded raw) ↔ Accepts raw
+
+-- and refused where they were refused
+abbrev pub UpgradedIsRefused : Type 0
+UpgradedIsRefused = (raw : RawTables) (row : StoreRow) → IsRefusedAt (upgraded raw) row ↔ IsRefusedAt raw row
+
 -- stored rows mean one set of tables at most
 abbrev pub RowsMeanOne : Type 0
 RowsMeanOne = (raw : RawTables) (t u : Tables) → Holds raw t → Holds raw u → t ≡ u
@@ -44,10 +65,10 @@ AcceptedRowsMeanKept = (raw : RawTables) (t : Tables) → Accepts raw → Holds 
 abbrev pub ChangeIsEdit : Type 0
 ChangeIsEdit = (t : Tables) (c : Change) → Takes t c → raw_after c (raw_of_tables t) ≡ raw_of_tables (does t c.edit).tables
 
--- so the changed rows mean the edited tables
+-- so the changed rows, upgraded before, mean the edited tables
 abbrev pub ChangeMeansEdit : Type 0
 ChangeMeansEdit = (raw : RawTables) (t : Tables) (c : Change) → Holds raw t → Takes t c → ∥ FitsLine c.edit.content ∥₁
-    → Holds (raw_after c raw) (does t c.edit).tables
+    → Holds (raw_after c (upgraded raw)) (does t c.edit).tables
 
 -- a store that is accepted is refused nowhere
 abbrev pub AcceptedIsNotRefused : Type 0
@@ -56,3 +77,7 @@ AcceptedIsNotRefused = (raw : RawTables) (row : StoreRow) → Accepts raw → Is
 -- a store is refused at one place at most
 abbrev pub RefusedOnce : Type 0
 RefusedOnce = (raw : RawTables) (a b : StoreRow) → IsRefusedAt raw a → IsRefusedAt raw b → a ≡ b
+
+-- no store is neither accepted nor refused
+abbrev pub AcceptedOrRefused : Type 0
+AcceptedOrRefused = (raw : RawTables) → (Accepts raw → ⊥) → ((row : StoreRow) → IsRefusedAt raw row → ⊥) → ⊥

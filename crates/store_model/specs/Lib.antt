@@ -1,4 +1,5 @@
 pub mod Raw
+pub mod Upgraded
 pub mod Stored
 pub mod Contents
 pub mod Accepted
@@ -6,3 +7,4 @@ pub mod Refused
 pub mod Change
 pub mod Kept
 pub mod Laws
+pub mod Again

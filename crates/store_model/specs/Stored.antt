@@ -5,6 +5,7 @@ use Rattle.policy_model.specs.Rules.{Row, Kind, execute, install, document}
 use Rattle.policy_model.specs.Tables.{Receipt, Tables}
 use Rattle.store_model.specs.declared.limits.TheConstants.{STORE_FORMAT}
 use Rattle.store_model.specs.Raw.{RawReceipt, RawRule, RawTables}
+use Rattle.store_model.specs.Upgraded.{upgraded}
 
 -- kinds are numbered from 1
 abbrev pub kind_number : Kind → ℤ
@@ -53,5 +54,5 @@ HaveTrees t = All (λ (r : Row). ∥ IsRequirementText r.text r.tree ∥₁) t.r
 
 -- these stored rows mean these tables
 pub record Holds (raw : RawTables) (t : Tables) : Type 0 where
-  pub stored : raw ≡ raw_of_tables t
+  pub stored : upgraded raw ≡ raw_of_tables t
   pub trees : HaveTrees t

@@ -2,7 +2,8 @@
 
 ghost use Rattle.policy_model.specs.History.{empty_tables};
 ghost use Rattle.store_model.specs.Kept.{IsKept};
-ghost use Rattle.store_model.specs.Laws.{EditsStayKept, HistoriesStayKept, KeptIdsAreOwn, KeptKeysAreOwn, RowsMeanOne, AcceptedRowsMeanSome, AcceptedRowsMeanKept, ChangeIsEdit, ChangeMeansEdit, AcceptedIsNotRefused, RefusedOnce};
+ghost use Rattle.store_model.specs.Again.{KeptIsReadAgain, HistoriesAreReadAgain};
+ghost use Rattle.store_model.specs.Laws.{EditsStayKept, HistoriesStayKept, KeptIdsAreOwn, KeptKeysAreOwn, UpgradedStays, StoredStays, UpgradedMeansTheSame, UpgradedIsAccepted, UpgradedIsRefused, RowsMeanOne, AcceptedRowsMeanSome, AcceptedRowsMeanKept, ChangeIsEdit, ChangeMeansEdit, AcceptedIsNotRefused, RefusedOnce, AcceptedOrRefused};
 
 use line_laws::laws::contents_read_back;
 use policy_model::laws::{ids_stay_own, keys_stay_own};
@@ -25,6 +26,15 @@ pub fn kept_tables()
     ensures keys { KeptKeysAreOwn }
 {}
 
+/// Rows are upgraded once, and mean the same before and after: they are accepted, or refused at the same place.
+pub fn upgraded_rows_mean_the_same()
+    ensures stays { UpgradedStays }
+    ensures stored { StoredStays }
+    ensures meaning { UpgradedMeansTheSame }
+    ensures accepted { UpgradedIsAccepted }
+    ensures refused { UpgradedIsRefused }
+{}
+
 /// Stored rows mean one set of tables at most, and accepted ones mean some.
 pub fn stored_rows_mean_tables()
     ensures once { RowsMeanOne }
@@ -40,8 +50,19 @@ pub fn change_is_edit()
     ensures meaning { ChangeMeansEdit }
 {}
 
-/// A store that is accepted is refused nowhere, and another at one place at most.
+/// A store that is accepted is refused nowhere, and another at one place: at most one, and none is neither.
 pub fn refused_rows()
     ensures accepted { AcceptedIsNotRefused }
     ensures once { RefusedOnce }
+    ensures one { AcceptedOrRefused }
 {}
+
+/// A store is read again: whatever edits have led to its tables, none of its rows is refused, and they mean those tables.
+pub fn stores_are_read_again()
+    ensures kept { KeptIsReadAgain }
+    ensures history { HistoriesAreReadAgain }
+{
+    stored_tables();
+    stored_rows_mean_tables();
+    refused_rows();
+}

@@ -1,5 +1,5 @@
 use Rattle.std.proofs.Common.{◌≡◌, ◌+◌, ℕ, List, ◌∷◌, length}
-use Rattle.code_facts.specs.Reading.{HasTaken}
+use Rattle.csv_records.specs.Reading.{HasTaken}
 use Rattle.import_csv.specs.ImportFile.{header, AskFor}
 use Rattle.import_csv.specs.RowCode.{edits_of}
 use Rattle.import_csv.proofs.file.read_rules.Given as goal

@@ -1,23 +1,23 @@
-use Rattle.std.proofs.Common.{[], ◌∷◌, ◌++◌, sym, ◌∙◌, refl, arith}
+use Rattle.std.proofs.Common.{[], ◌∷◌, ◌++◌, sym, subst, ◌∙◌, refl, arith}
 use Rattle.csv.specs.Records.{fields_of}
-use Rattle.code_facts.proofs.RecordLemmas.{took_none, took_one}
+use Rattle.csv_records.specs.Reading.{Takes}
 use Rattle.code_facts.proofs.FileLemmas.{no_header, header_fault, row_fault, row_more, all_read, taken_few, count_more, few_more}
-use Rattle.code_facts.proofs.RecordsExist.{first_fault}
+use Rattle.code_facts.proofs.Refusals.{first_fault}
 use Rattle.code_facts.proofs.Soundness.{sound_none}
 use Rattle.code_facts.proofs.table.FactTable.read.Goals as goal
 
 pub returns-then-not-branch-clause-first : goal.returns-then-not-branch-clause-first
 returns-then-not-branch-clause-first c = λ apart.
-    first_fault c.args.bytes.now _ (no_header c.args.bytes.now (took_none c.next_record.new.reader c.args.bytes.now [] _ c.in_ok-next_record.field-0 c.if-not-branch.true (c.in_ok-next_record.ensures c.args.bytes.now [] c.records_of-reader.ensures)))
+    first_fault c.a_text_has_one_list_of_records.ensures.some c.args.bytes.now _ (no_header c.a_text_has_one_list_of_records.ensures.one c.args.bytes.now (subst (Takes c.next_record.new.reader c.args.bytes.now [] (fields_of c.next_record.new.fields)) c.if-not-branch.true (c.in_ok-next_record.ensures c.args.bytes.now [] c.records_of-reader.ensures)))
 
 pub returns-then-not-is_header-clause-first : goal.returns-then-not-is_header-clause-first
 returns-then-not-is_header-clause-first c = λ apart.
-    let taken = took_one c.next_record.new.reader c.args.bytes.now [] (fields_of c.next_record.new.fields) c.in_ok-next_record.field-0 c.if-not-branch.false (c.in_ok-next_record.ensures c.args.bytes.now [] c.records_of-reader.ensures) in
-    first_fault c.args.bytes.now _ (header_fault c.next_record.new.reader c.args.bytes.now (fields_of c.next_record.new.fields) taken (sym c.is_header.ensures ∙ c.if-not-is_header.true))
+    let taken = subst (Takes c.next_record.new.reader c.args.bytes.now [] (fields_of c.next_record.new.fields)) c.if-not-branch.false (c.in_ok-next_record.ensures c.args.bytes.now [] c.records_of-reader.ensures) in
+    first_fault c.a_text_has_one_list_of_records.ensures.some c.args.bytes.now _ (header_fault c.a_text_has_one_list_of_records.ensures.front c.next_record.new.reader c.args.bytes.now (fields_of c.next_record.new.fields) taken (sym c.is_header.ensures ∙ c.if-not-is_header.true))
 
 pub loop-number-init : goal.loop-number-init
 loop-number-init c =
-    let taken = took_one c.next_record.new.reader c.args.bytes.now [] (fields_of c.next_record.new.fields) c.in_ok-next_record.field-0 c.if-not-branch.false (c.in_ok-next_record.ensures c.args.bytes.now [] c.records_of-reader.ensures) in
+    let taken = subst (Takes c.next_record.new.reader c.args.bytes.now [] (fields_of c.next_record.new.fields)) c.if-not-branch.false (c.in_ok-next_record.ensures c.args.bytes.now [] c.records_of-reader.ensures) in
     record {
       head = fields_of c.next_record.new.fields;
       front = [];
@@ -33,7 +33,7 @@ loop-number-init c =
 pub returns-then-not-branch-2-clause-found : goal.returns-then-not-branch-2-clause-found
 returns-then-not-branch-2-clause-found c =
     let so_far = c.loop-number.invariant in
-    let all = took_none c.next_record-in-loop-number.new.reader c.args.bytes.now (so_far.head ∷ so_far.front) _ c.in_ok-next_record-2.field-0 c.if-not-branch-2.true
+    let all = subst (Takes c.next_record-in-loop-number.new.reader c.args.bytes.now (so_far.head ∷ so_far.front) (fields_of c.next_record-in-loop-number.new.fields)) c.if-not-branch-2.true
     (c.in_ok-next_record-2.ensures c.args.bytes.now (so_far.head ∷ so_far.front) so_far.taken) in
     record {
       records = so_far.head ∷ so_far.front;
@@ -46,16 +46,16 @@ returns-then-not-branch-2-clause-found c =
 pub returns-in-Err-clause-first : goal.returns-in-Err-clause-first
 returns-in-Err-clause-first c = λ apart.
     let so_far = c.loop-number.invariant in
-    let taken_one = took_one c.next_record-in-loop-number.new.reader c.args.bytes.now (so_far.head ∷ so_far.front) (fields_of c.next_record-in-loop-number.new.fields) c.in_ok-next_record-2.field-0 c.if-not-branch-2.false
+    let taken_one = subst (Takes c.next_record-in-loop-number.new.reader c.args.bytes.now (so_far.head ∷ so_far.front) (fields_of c.next_record-in-loop-number.new.fields)) c.if-not-branch-2.false
     (c.in_ok-next_record-2.ensures c.args.bytes.now (so_far.head ∷ so_far.front) so_far.taken) in
     let bad = c.in-Err.ensures.first apart so_far.rows so_far.stands in
-    first_fault c.args.bytes.now _ (row_fault c.next_record-in-loop-number.new.reader c.args.bytes.now so_far.head so_far.front (fields_of c.next_record-in-loop-number.new.fields) c.in-Err.fault so_far.rows c.loop-number.number
+    first_fault c.a_text_has_one_list_of_records.ensures.some c.args.bytes.now _ (row_fault c.a_text_has_one_list_of_records.ensures.front c.next_record-in-loop-number.new.reader c.args.bytes.now so_far.head so_far.front (fields_of c.next_record-in-loop-number.new.fields) c.in-Err.fault so_far.rows c.loop-number.number
     taken_one so_far.header so_far.accepted so_far.count bad)
 
 pub loop-number-preserved : goal.loop-number-preserved
 loop-number-preserved c =
     let so_far = c.loop-number.invariant in
-    let taken_one = took_one c.next_record-in-loop-number.new.reader c.args.bytes.now (so_far.head ∷ so_far.front) (fields_of c.next_record-in-loop-number.new.fields) c.in_ok-next_record-2.field-0 c.if-not-branch-2.false
+    let taken_one = subst (Takes c.next_record-in-loop-number.new.reader c.args.bytes.now (so_far.head ∷ so_far.front) (fields_of c.next_record-in-loop-number.new.fields)) c.if-not-branch-2.false
     (c.in_ok-next_record-2.ensures c.args.bytes.now (so_far.head ∷ so_far.front) so_far.taken) in
     let one = c.in-Ok.ensures.found so_far.rows so_far.stands in
     record {

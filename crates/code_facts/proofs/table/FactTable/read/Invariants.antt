@@ -1,7 +1,7 @@
 use Rattle.std.proofs.Common.{◌≡◌, ◌+◌, ◌≤◌, true, ℕ, List, [], ◌∷◌, length, Ok}
 use Rattle.code_facts.specs.Rows.{Row}
 use Rattle.code_facts.specs.FactsFile as file
-use Rattle.code_facts.specs.Reading.{HasTaken}
+use Rattle.csv_records.specs.Reading.{HasTaken}
 use Rattle.code_facts.specs.Tables.{Stands}
 use Rattle.code_facts.proofs.table.FactTable.read.Given as goal
 

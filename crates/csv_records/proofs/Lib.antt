@@ -1,0 +1,3 @@
+mod OneRead
+mod OneList
+mod EachHasRecords

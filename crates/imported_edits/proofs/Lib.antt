@@ -1,0 +1,2 @@
+mod FieldBytes
+mod RowsFit
