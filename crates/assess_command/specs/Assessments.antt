@@ -7,7 +7,7 @@ use Rattle.policy_model.specs.declared.limits.TheConstants.{GREATEST_MOMENT}
 use Rattle.policy_model.specs.Rules.{Kind}
 use Rattle.policy_model.specs.Outcomes.{Ask, Verdict}
 use Rattle.policy_model.specs.History.{Event, Opening, tick, ask, ask_answer}
-use Rattle.session_model.specs.Finishing.{finished_text}
+use Rattle.session_model.specs.Finishing.{finished_text, finished_history}
 use Rattle.assess_command.specs.declared.line.Assessed.{Assessed}
 use Rattle.assess_command.specs.declared.line.Assessed.TheVariants.{Accepted, Rejected, Refused}
 use Rattle.assess_command.specs.Files.{IsSubject, FilesFail}
@@ -31,6 +31,10 @@ answer_at o h a seconds = ask_answer o (at_moment h seconds) a
 -- the line of an ask at a moment of the clock that is finished at once
 abbrev pub line_at : Opening → List Event → Ask → ℕ → List ℕ
 line_at o h a seconds = finished_text o (at_moment h seconds ++ ask a ∷ []) (length (at_moment h seconds)) a
+
+-- what has happened by then: the moment, the ask, and its offer where it has one
+abbrev pub asked_at : Opening → List Event → Ask → ℕ → List Event
+asked_at o h a seconds = finished_history o (at_moment h seconds ++ ask a ∷ []) (length (at_moment h seconds)) a
 
 -- the verdict accepts or rejects, and this is its line
 pub record Answered (o : Opening) (h : List Event) (a : Ask) (seconds : ℕ) (allow : Bool) (line : List ℕ) : Type 0 where
@@ -64,3 +68,15 @@ abbrev pub Assesses : Opening → List Event → Kind → List ℕ → Option (L
 Assesses o h kind signature code seconds Accepted line = Judged o h kind signature code seconds true line
 Assesses o h kind signature code seconds Rejected line = Judged o h kind signature code seconds false line
 Assesses o h kind signature code seconds Refused line = IsRefused signature code line
+
+-- what has happened when code of some subject was asked for that the files say
+pub record Asked (o : Opening) (h : List Event) (kind : Kind) (signature : List ℕ) (code : Option (List ℕ)) (seconds : ℕ) (after : List Event) : Type 0 where
+  pub subject : Option Subject
+  pub subject_is : IsSubject signature code subject
+  pub after_is : after ≡ asked_at o h (ask_on kind subject) seconds
+
+-- what has happened when files were assessed: nothing more where they are refused
+abbrev pub Leaves : Opening → List Event → Kind → List ℕ → Option (List ℕ) → ℕ → Assessed → List Event → Type 0
+Leaves o h kind signature code seconds Accepted after = Asked o h kind signature code seconds after
+Leaves o h kind signature code seconds Rejected after = Asked o h kind signature code seconds after
+Leaves o h kind signature code seconds Refused after = after ≡ h

@@ -1,6 +1,6 @@
 //! The line that assesses a signature file.
 
-ghost use Rattle.std.specs.Prelude.{◌≡◌, ◌≤◌, [], ◌++◌, ℕ, List, length, take, min, codes, IfOk, option_map};
+ghost use Rattle.std.specs.Prelude.{◌≡◌, ◌≤◌, [], ◌∷◌, ◌++◌, ℕ, List, length, take, min, codes, IfOk, OnOk, OnErr, option_map};
 ghost use Rattle.line_text.specs.LineText.{line_bytes};
 ghost use Rattle.policy_model.specs.History.{ask_answer};
 ghost use Rattle.policy_model.specs.ReplyTexts.{verdict_text};
@@ -12,13 +12,14 @@ ghost use Rattle.desk_state.specs.Verdict.{verdict_of, origin_of};
 ghost use Rattle.session_model.specs.Finishing.{finished_text};
 ghost use Rattle.policy_model.specs.declared.limits.TheConstants.{GREATEST_MOMENT};
 ghost use Rattle.policy_model.specs.History.{Event, Opening};
+ghost use Rattle.policy_model.specs.History as event;
 ghost use Rattle.rule_values.specs.Kind.{kind_of};
 ghost use Rattle.assess.specs.Ask.{ask_of};
 ghost use Rattle.object_model.specs.OfDesk.{IsTicketOfDesk};
 ghost use Rattle.desk_state.specs.Stands.{plain, Stands};
 ghost use Rattle.code_directory.specs.FaultText.{code_fault_text};
 ghost use Rattle.assess_command.specs.Files.{code_of};
-ghost use Rattle.assess_command.specs.Assessments.{Assesses, IsAnswered, assessed_by};
+ghost use Rattle.assess_command.specs.Assessments.{Assesses, IsAnswered, Leaves, assessed_by, asked_at, at_moment};
 ghost use Rattle.assess_command.specs.Assessments as spec;
 
 use crate::files::subject_in;
@@ -41,7 +42,7 @@ pub enum Assessed {
 }
 
 /// Assesses the code of a signature file by this desk, at these seconds of the clock: one line, without its
-/// end; nothing is returned where it is out of memory. The signature and the code are looked at where they lie.
+/// end. Out of memory, the moment alone was handed in. The signature and the code are looked at where they lie.
 pub fn assess_files(
     alloc: Global,
     desk: &mut Desk,
@@ -54,6 +55,9 @@ pub fn assess_files(
     requires { line_bytes out.old ≡ [] }
     ensures says { (o : Opening) (h : List Event) → Stands desk.old o h
         → IfOk result (λ how. Assesses o h (kind_of kind) signature.now (code_of code.entry) now how (line_bytes out.new)) }
+    ensures stands { (o : Opening) (h : List Event) → Stands desk.old o h
+        → IfOk result (λ how. (after : List Event) × Leaves o h (kind_of kind) signature.now (code_of code.entry) now how after × Stands desk.new o after) }
+    ensures wanting { (o : Opening) (h : List Event) → Stands desk.old o h → OnErr result (Stands desk.new o (at_moment h now)) }
     ensures room { length (line_bytes out.new) ≤ 1000 }
 {
     match subject_in(signature, code) {
@@ -79,27 +83,30 @@ fn answer(
 ) -> Result<Assessed, AllocError>
     requires { line_bytes out.old ≡ [] }
     ensures says { (o : Opening) (h : List Event) → Stands desk.old o h → IfOk result (λ how. IsAnswered o h (ask_of ask.now) now how (line_bytes out.new)) }
+    ensures stands { (o : Opening) (h : List Event) → Stands desk.old o h → OnOk result (Stands desk.new o (asked_at o h (ask_of ask.now) now)) }
+    ensures wanting { (o : Opening) (h : List Event) → Stands desk.old o h → OnErr result (Stands desk.new o (at_moment h now)) }
     ensures room { length (line_bytes out.new) ≤ 1000 }
 {
     desk.tick(moment_at(now));
     match desk.begin(alloc, ask)? {
         Begun::Known(verdict) => Ok(said(&verdict, None, out)),
-        Begun::Pending(ticket) => finish(desk, ticket, out),
+        Begun::Pending(ticket) => Ok(finish(desk, ticket, out)),
     }
 }
 
 /// Finishes an assessment with what its ticket judges.
-fn finish(desk: &mut Desk, ticket: Ticket, out: &mut LineText) -> Result<Assessed, AllocError>
+fn finish(desk: &mut Desk, ticket: Ticket, out: &mut LineText) -> Assessed
     requires text { line_bytes out.old ≡ [] }
     requires of_desk { IsTicketOfDesk (plain desk.old) (ticket_of ticket) }
     ensures room { length (line_bytes out.new) ≤ 1000 }
     ensures finished { (o : Opening) (h : List Event) (k : ℕ) → Stands desk.old o h → IsTicketOf (ticket_of ticket) o h k
-        → IfOk result (λ how. (how ≡ assessed_by (ask_answer o (take k h) (ticket_ask (ticket_of ticket))).allow)
-        × (line_bytes out.new ≡ finished_text o h k (ticket_ask (ticket_of ticket)))) }
+        → (result ≡ assessed_by (ask_answer o (take k h) (ticket_ask (ticket_of ticket))).allow)
+        × (line_bytes out.new ≡ finished_text o h k (ticket_ask (ticket_of ticket))) }
+    ensures stands { (o : Opening) (h : List Event) (k : ℕ) → Stands desk.old o h → IsTicketOf (ticket_of ticket) o h k → Stands desk.new o (h ++ event.offer k ∷ []) }
 {
     let outcome = ticket.judge();
-    let finished = desk.finish(ticket, outcome)?;
-    Ok(said(&finished.verdict, Some(finished.offered), out))
+    let finished = desk.finish(ticket, outcome);
+    said(&finished.verdict, Some(finished.offered), out)
 }
 
 /// Writes a verdict's line, with what became of its outcome.

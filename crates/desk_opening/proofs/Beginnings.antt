@@ -17,10 +17,10 @@ use Rattle.run_status.specs.declared.status.Status.{Status}
 use Rattle.run_status.specs.declared.status.Status.TheVariants.{Fine, Denied, Usage, ReadFault, WriteFault, ShelfFault, ClockFault, KeeperFault, FileMissing, FileTooLong, BadFacts, BadStore, Refused, SessionTooLong, OutOfMemory}
 use Rattle.run_status.specs.Files.{IsFile, SaysWithoutFile}
 use Rattle.desk_opening.specs.declared.limits.TheConstants.{MOST_FACTS_BYTES}
-use Rattle.desk_opening.specs.Facts.{IsFacts, SaysBadFacts, SaysOfFacts}
+use Rattle.desk_opening.specs.Facts.{IsFacts, HasFacts, SaysBadFacts, SaysOfFacts}
 use Rattle.desk_opening.specs.Opens.{IsOpening, SaysOfStore, SaysUnopened}
 use Rattle.desk_state.specs.Loaded.{loaded}
-use Rattle.desk_opening.specs.Laws.{OneOpening, OpenedIsNotUnopened, UnopenedHasOneStatus, EmptyStoreOpensFresh}
+use Rattle.desk_opening.specs.Laws.{OneOpening, OpenedIsNotUnopened, UnopenedHasOneStatus, ReadIsNotRefused, RefusedHasOneStatus, EmptyStoreOpensFresh}
 
 -- no file of that name, or one that is longer
 abbrev IsWithout : List File → List ℕ → Status → Type 0
@@ -105,6 +105,9 @@ module _ (apart : (bytes : List ℕ) (facts : Facts) (fault : FactFault) → IsF
       let bad = bad_facts said.0 status text said.2 in
       apart is.0 facts bad.1.0 is.2 (subst (λ bytes. IsFirstFault bytes bad.1.0) (same_bytes (file_named files name) said.0 is.0 said.1.0 is.1.0) bad.1.1)
 
+  pub read_is_not_refused : ReadIsNotRefused
+  read_is_not_refused files name status text has said = facts_or_said files name has.0 status text has.1 said
+
   module _ (refuse : AcceptedIsNotRefused) where
     pub opened_is_not_unopened : OpenedIsNotUnopened
     opened_is_not_unopened files name raw o status text opening (inl said) = facts_or_said files name opening.facts status text opening.facts_are said
@@ -118,6 +121,9 @@ module _ (apart : (bytes : List ℕ) (facts : Facts) (fault : FactFault) → IsF
   said_of_facts files (Some name) first second said other (inl a) (inr b) = absurd (there files name first b.0 (without files name first said a) b.1)
   said_of_facts files (Some name) first second said other (inr a) (inl b) = absurd (there files name second a.0 (without files name second other b) a.1)
   said_of_facts files (Some name) first second said other (inr a) (inr b) = (bad_facts a.0 first said a.2).0 ∙ sym (bad_facts b.0 second other b.2).0
+
+  pub refused_has_one_status : RefusedHasOneStatus
+  refused_has_one_status = said_of_facts
 
   pub unopened_has_one_status : UnopenedHasOneStatus
   unopened_has_one_status files name raw first second said other (inl a) (inl b) = said_of_facts files name first second said other a b

@@ -1,5 +1,5 @@
 -- The facts of a run: those of a file, where one is named. This project's own.
-use Rattle.std.specs.Prelude.{◌≡◌, ◌≢◌, ◌⊎◌, ℕ, List, Option, None, Some, option_map, ⊤}
+use Rattle.std.specs.Prelude.{◌≡◌, ◌≢◌, ◌⊎◌, ℕ, List, Option, None, Some, IsSome, option_map, ⊤}
 use denote.Bor.{Bor}
 use Rattle.gk_io.specs.Shelf.{File}
 use Rattle.line_reader.specs.Lines.{with_lf}
@@ -25,6 +25,10 @@ abbrev pub IsFacts : Option (List File) → Option (List ℕ) → Facts → Type
 IsFacts files None facts = facts ≡ no_facts
 IsFacts files (Some name) facts = (bytes : List ℕ) × IsFile files name MOST_FACTS_BYTES bytes × IsFactsFile bytes facts
 
+-- the facts were read, or none were asked for
+abbrev pub HasFacts : Option (List File) → Option (List ℕ) → Type 0
+HasFacts files name = (facts : Facts) × IsFacts files name facts
+
 -- the facts file's bytes are refused for this fault, and the line says so
 abbrev pub SaysBadFacts : List ℕ → Status → List ℕ → Type 0
 SaysBadFacts bytes BadFacts text = (fault : FactFault) × (fault ≢ OutOfMemory) × IsFirstFault bytes fault × (text ≡ with_lf (bad_facts_text fault))
@@ -37,10 +41,10 @@ SaysOfFacts files (Some name) status text =
     SaysWithoutFile files name MOST_FACTS_BYTES status text
     ⊎ ((bytes : List ℕ) × IsFile files name MOST_FACTS_BYTES bytes × SaysBadFacts bytes status text)
 
--- why there are no facts: what is said of their file, the shelf, or no memory
+-- why there are no facts: what is said of their file, the shelf, which is asked for a file that is named, or no memory
 abbrev pub FactsFail : Option (List File) → Option (List ℕ) → Unopened → Type 0
 FactsFail files name (Said said) = SaysOfFacts files name said.status said.text
-FactsFail files name (Stop stop.ShelfFault) = ⊤
+FactsFail files name (Stop stop.ShelfFault) = IsSome name
 FactsFail files name (Stop stop.ClockFault) = ⊥
 FactsFail files name (Stop stop.OutOfMemory) = ⊤
 FactsFail files name KeeperFault = ⊥

@@ -1,8 +1,8 @@
 -- Where a run's desk begins, and what is said where it has none. This project's own.
-use Rattle.std.specs.Prelude.{◌≡◌, ◌⊎◌, ℕ, [], List, Option, IfSome, ⊤}
+use Rattle.std.specs.Prelude.{◌≡◌, ◌⊎◌, ℕ, [], List, Option, IsSome, IfSome, ⊤}
+use Rattle.gk_io.specs.Devices.{Counts}
 use Rattle.gk_io.specs.Shelf.{File}
 use Rattle.line_reader.specs.Lines.{with_lf}
-use Rattle.req_tree.specs.Facts.{Facts}
 use Rattle.store_model.specs.Raw.{StoreRow}
 use Rattle.policy_model.specs.Tables.{Tables}
 use Rattle.policy_model.specs.History.{Opening}
@@ -19,12 +19,24 @@ use Rattle.run_status.specs.declared.status.Status.TheVariants.{BadStore}
 use Rattle.run_status.specs.declared.stop.Stop.TheVariants as stop
 use Rattle.desk_opening.specs.declared.unopened.Unopened.{Unopened}
 use Rattle.desk_opening.specs.declared.unopened.Unopened.TheVariants.{Said, Stop, KeeperFault}
-use Rattle.desk_opening.specs.Facts.{IsFacts, SaysOfFacts}
+use Rattle.req_tree.specs.Facts.{Facts}
+use Rattle.desk_opening.specs.Facts.{IsFacts, HasFacts, SaysOfFacts}
 use Rattle.desk_opening.specs.StoreTexts.{bad_store_text}
 
 -- where the keeper tells its rows before and after, they are the same
 abbrev pub TellsTheSame : Told → Told → Type 0
 TellsTheSame before after = IfSome after (λ new. IfSome before (λ old. old ≡ new))
+
+-- the rows that a keeper told when its load had answered: those that it told before, if it told any then; and it told them if it tells
+-- any afterwards
+pub record IsLoaded (before rows after : Told) : Type 0 where
+  pub same : TellsTheSame before rows
+  pub telling : IsSome after → IsSome rows
+
+-- a keeper over a load: the rows that it tells, and its count of failures
+pub record PassesLoad (says may : Type 0) (told now : Told) (before counted : ℕ) : Type 0 where
+  pub same : TellsTheSame told now
+  pub counts : Counts says may before counted
 
 -- where the keeper tells its rows, they are accepted, and mean these tables
 abbrev pub IsStored : Told → Tables → Type 0
@@ -55,15 +67,16 @@ SaysOfStore told other text = ⊥
 abbrev pub SaysUnopened : Option (List File) → Option (List ℕ) → Told → Status → List ℕ → Type 0
 SaysUnopened files name told status text =
     SaysOfFacts files name status text
-    ⊎ (((facts : Facts) × IsFacts files name facts) × SaysOfStore told status text)
+    ⊎ (HasFacts files name × SaysOfStore told status text)
 
--- why there is no desk: what is said, or a device that failed, or no memory; the clock isn't asked
+-- why there is no desk: what is said; the shelf failed, which is asked for a facts file that is named; the keeper failed, once the facts
+-- were read; or no memory. The clock isn't asked
 abbrev pub IsUnopened : Option (List File) → Option (List ℕ) → Told → Unopened → Type 0
 IsUnopened files name told (Said said) = SaysUnopened files name told said.status said.text
-IsUnopened files name told (Stop stop.ShelfFault) = ⊤
+IsUnopened files name told (Stop stop.ShelfFault) = IsSome name
 IsUnopened files name told (Stop stop.ClockFault) = ⊥
 IsUnopened files name told (Stop stop.OutOfMemory) = ⊤
-IsUnopened files name told KeeperFault = ⊤
+IsUnopened files name told KeeperFault = HasFacts files name
 
 -- why the keeper's tables weren't loaded
 abbrev pub IsUnloaded : Told → Unopened → Type 0

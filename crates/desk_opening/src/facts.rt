@@ -1,8 +1,7 @@
 //! The facts of a run.
 
-ghost use Rattle.std.specs.Prelude.{◌≡◌, ◌≤◌, IfOk, IfErr, IsErrOf, Some};
-ghost use Rattle.gk_io.specs.Faults.{Rose};
-ghost use Rattle.gk_io.specs.Shelf.{KeepsFiles};
+ghost use Rattle.std.specs.Prelude.{◌≡◌, IfOk, IfErr, IsErrOf, Some};
+ghost use Rattle.gk_io.specs.Devices.{PassesShelf};
 ghost use Rattle.line_reader.specs.Lines.{with_lf};
 ghost use Rattle.code_facts.specs.Tables.{IsFactsFile, table_facts};
 ghost use Rattle.run_status.specs.declared.stop.Stop.TheVariants as stop;
@@ -26,10 +25,8 @@ pub(crate) fn facts_of_run<H: Shelf>(
 ) -> Result<FactTable, Unopened>
     ensures found { IfOk result (λ table. IsFacts (H.files shelf.old) (name_of name.entry) (table_facts table)) }
     ensures fails { IfErr result (λ why. FactsFail (H.files shelf.old) (name_of name.entry) why) }
-    ensures kept { KeepsFiles (H.files shelf.old) (H.files shelf.new) }
-    ensures later { H.faults shelf.old ≤ H.faults shelf.new }
-    ensures cause { IsErrOf result (unopened.Stop stop.ShelfFault) → Rose (H.faults shelf.old) (H.faults shelf.new) }
-    ensures steady { (IsErrOf result (unopened.Stop stop.ShelfFault) → ⊥) → H.faults shelf.new ≡ H.faults shelf.old }
+    ensures shelf { PassesShelf (IsErrOf result (unopened.Stop stop.ShelfFault)) (IsErrOf result (unopened.Stop stop.ShelfFault))
+        (H.files shelf.old) (H.files shelf.new) (H.faults shelf.old) (H.faults shelf.new) }
 {
     match name {
         Some(name) => facts_of_file(alloc, name, shelf),
@@ -40,10 +37,8 @@ pub(crate) fn facts_of_run<H: Shelf>(
 fn facts_of_file<H: Shelf>(alloc: Global, name: &str, shelf: &mut H) -> Result<FactTable, Unopened>
     ensures found { IfOk result (λ table. IsFacts (H.files shelf.old) (Some name.now) (table_facts table)) }
     ensures fails { IfErr result (λ why. FactsFail (H.files shelf.old) (Some name.now) why) }
-    ensures kept { KeepsFiles (H.files shelf.old) (H.files shelf.new) }
-    ensures later { H.faults shelf.old ≤ H.faults shelf.new }
-    ensures cause { IsErrOf result (unopened.Stop stop.ShelfFault) → Rose (H.faults shelf.old) (H.faults shelf.new) }
-    ensures steady { (IsErrOf result (unopened.Stop stop.ShelfFault) → ⊥) → H.faults shelf.new ≡ H.faults shelf.old }
+    ensures shelf { PassesShelf (IsErrOf result (unopened.Stop stop.ShelfFault)) (IsErrOf result (unopened.Stop stop.ShelfFault))
+        (H.files shelf.old) (H.files shelf.new) (H.faults shelf.old) (H.faults shelf.new) }
 {
     match fetch_file(alloc, shelf, name, MOST_FACTS_BYTES)? {
         Asked::File(bytes) => read_facts(alloc, bytes.as_slice()),

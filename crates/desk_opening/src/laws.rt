@@ -1,6 +1,6 @@
 //! Laws over the definitions: functions that do nothing and whose contracts are the laws.
 
-ghost use Rattle.desk_opening.specs.Laws.{OneOpening, OpenedIsNotUnopened, UnopenedHasOneStatus, UnopenedIsSpoken, EmptyStoreOpensFresh};
+ghost use Rattle.desk_opening.specs.Laws.{OneOpening, OpenedIsNotUnopened, UnopenedHasOneStatus, UnopenedIsDeskless, UnopenedIsSpoken, ReadIsNotRefused, RefusedHasOneStatus, EmptyStoreOpensFresh};
 
 use code_facts::laws::a_file_is_right_or_has_a_first_fault;
 use store_model::laws::{refused_rows, stored_rows_mean_tables};
@@ -10,7 +10,10 @@ pub fn a_run_begins_or_not()
     ensures one { OneOpening }
     ensures apart { OpenedIsNotUnopened }
     ensures status { UnopenedHasOneStatus }
+    ensures deskless { UnopenedIsDeskless }
     ensures spoken { UnopenedIsSpoken }
+    ensures facts_apart { ReadIsNotRefused }
+    ensures facts_status { RefusedHasOneStatus }
 {
     a_file_is_right_or_has_a_first_fault();
     stored_rows_mean_tables();

@@ -1,9 +1,8 @@
 //! The desk of a run.
 
-ghost use Rattle.std.specs.Prelude.{◌≡◌, ◌≤◌, [], IfOk, IfErr, IsErrOf};
+ghost use Rattle.std.specs.Prelude.{◌≡◌, [], IfOk, IfErr, IsErrOf};
 ghost use Rattle.std.specs.Arc.{arc_value};
-ghost use Rattle.gk_io.specs.Faults.{Rose};
-ghost use Rattle.gk_io.specs.Shelf.{KeepsFiles};
+ghost use Rattle.gk_io.specs.Devices.{PassesShelf};
 ghost use Rattle.line_reader.specs.Lines.{with_lf};
 ghost use Rattle.code_facts.specs.Tables.{table_facts};
 ghost use Rattle.desk_state.specs.Stands.{tables, Stands};
@@ -12,7 +11,7 @@ ghost use Rattle.store_reading.specs.Fault.{place_of};
 ghost use Rattle.run_status.specs.declared.stop.Stop.TheVariants as stop;
 ghost use Rattle.desk_opening.specs.declared.unopened.Unopened.TheVariants as unopened;
 ghost use Rattle.desk_opening.specs.Facts.{name_of};
-ghost use Rattle.desk_opening.specs.Opens.{TellsTheSame, IsStored, IsOpened, IsUnopened, IsUnloaded, IsRowTold};
+ghost use Rattle.desk_opening.specs.Opens.{PassesLoad, IsStored, IsOpened, IsUnopened, IsUnloaded, IsRowTold};
 ghost use Rattle.desk_opening.specs.StoreTexts.{bad_store_text};
 
 use crate::facts::facts_of_run;
@@ -38,16 +37,12 @@ pub fn open_desk<H: Shelf, K: Keeper>(
 ) -> Result<Desk, Unopened>
     ensures opened { IfOk result (λ desk. IsOpened (H.files shelf.old) (name_of facts.entry) (K.told keeper.new) desk) }
     ensures unopened { IfErr result (λ why. IsUnopened (H.files shelf.old) (name_of facts.entry) (K.told keeper.new) why) }
-    ensures same { TellsTheSame (K.told keeper.old) (K.told keeper.new) }
 
-    // A failure of a device shows in its count, which never falls, and nothing else moves it.
-    ensures kept { KeepsFiles (H.files shelf.old) (H.files shelf.new) }
-    ensures later { H.faults shelf.old ≤ H.faults shelf.new }
-    ensures cause { IsErrOf result (unopened.Stop stop.ShelfFault) → Rose (H.faults shelf.old) (H.faults shelf.new) }
-    ensures steady { (IsErrOf result (unopened.Stop stop.ShelfFault) → ⊥) → H.faults shelf.new ≡ H.faults shelf.old }
-    ensures keeper_later { K.faults keeper.old ≤ K.faults keeper.new }
-    ensures keeper_cause { IsErrOf result unopened.KeeperFault → Rose (K.faults keeper.old) (K.faults keeper.new) }
-    ensures keeper_steady { (IsErrOf result unopened.KeeperFault → ⊥) → K.faults keeper.new ≡ K.faults keeper.old }
+    // A failure of a device shows in its count, and nothing else moves it.
+    ensures shelf { PassesShelf (IsErrOf result (unopened.Stop stop.ShelfFault)) (IsErrOf result (unopened.Stop stop.ShelfFault))
+        (H.files shelf.old) (H.files shelf.new) (H.faults shelf.old) (H.faults shelf.new) }
+    ensures keeper { PassesLoad (IsErrOf result unopened.KeeperFault) (IsErrOf result unopened.KeeperFault)
+        (K.told keeper.old) (K.told keeper.new) (K.faults keeper.old) (K.faults keeper.new) }
 {
     let table = facts_of_run(alloc, facts, shelf)?;
     let Ok(facts) = Arc::new(alloc, table) else {
@@ -64,10 +59,8 @@ fn load_desk<K: Keeper>(
     ensures stands { IfOk result (λ desk. Stands desk (loaded (tables desk) (table_facts (arc_value facts))) []) }
     ensures stored { IfOk result (λ desk. IsStored (K.told keeper.new) (tables desk)) }
     ensures unloaded { IfErr result (λ why. IsUnloaded (K.told keeper.new) why) }
-    ensures same { TellsTheSame (K.told keeper.old) (K.told keeper.new) }
-    ensures later { K.faults keeper.old ≤ K.faults keeper.new }
-    ensures cause { IsErrOf result unopened.KeeperFault → Rose (K.faults keeper.old) (K.faults keeper.new) }
-    ensures steady { (IsErrOf result unopened.KeeperFault → ⊥) → K.faults keeper.new ≡ K.faults keeper.old }
+    ensures keeper { PassesLoad (IsErrOf result unopened.KeeperFault) (IsErrOf result unopened.KeeperFault)
+        (K.told keeper.old) (K.told keeper.new) (K.faults keeper.old) (K.faults keeper.new) }
 {
     match Desk::load(alloc, keeper, facts) {
         Ok(desk) => Ok(desk),

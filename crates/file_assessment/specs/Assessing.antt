@@ -10,7 +10,7 @@ use Rattle.assess_command.specs.declared.line.Assessed.TheVariants.{Accepted, Re
 use Rattle.assess_command.specs.Assessments.{Assesses}
 use Rattle.run_status.specs.declared.status.Status.{Status}
 use Rattle.run_status.specs.declared.status.Status.TheVariants as ends
-use Rattle.run_status.specs.Files.{SaysOnFile}
+use Rattle.run_status.specs.Files.{IsFile, SaysOnFile}
 use Rattle.file_assessment.specs.declared.limits.TheConstants.{MOST_SIGNATURE_BYTES, MOST_CODE_BYTES}
 
 -- the name of the code file, where there is one
@@ -51,3 +51,16 @@ SaysWithCode o h files moments kind (Some name) signature end said = SaysOnFile 
 -- what `assess` says, by the status, over these files and moments: the signature file first, then the code file, then the clock
 abbrev pub SaysAssess : Opening → List Event → Option (List File) → Option (List ℕ) → Kind → List ℕ → Option (List ℕ) → Status → List ℕ → Type 0
 SaysAssess o h files moments kind name code end said = SaysOnFile (SaysWithCode o h files moments kind code) files name MOST_SIGNATURE_BYTES end said
+
+-- a file of that name is there, and within the limit
+abbrev pub HasFile : Option (List File) → List ℕ → ℕ → Type 0
+HasFile files name limit = (bytes : List ℕ) × IsFile files name limit bytes
+
+-- the code file is there, where one is named
+abbrev pub HasCode : Option (List File) → Option (List ℕ) → Type 0
+HasCode files None = ⊤
+HasCode files (Some code) = HasFile files code MOST_CODE_BYTES
+
+-- all files of an assessment are there
+abbrev pub HasFiles : Option (List File) → List ℕ → Option (List ℕ) → Type 0
+HasFiles files name code = HasFile files name MOST_SIGNATURE_BYTES × HasCode files code

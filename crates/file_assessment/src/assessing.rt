@@ -1,16 +1,15 @@
 //! `assess KIND NAME [CODE]`: the files, then the clock, then the assessment by a desk that is lent.
 
-ghost use Rattle.std.specs.Prelude.{◌≡◌, ◌≢◌, ◌≤◌, List, Err, IfOk, Some, is_some};
+ghost use Rattle.std.specs.Prelude.{◌≡◌, ◌≢◌, List, Err, IfOk, Some};
 ghost use Rattle.policy_model.specs.History.{Event, Opening};
 ghost use Rattle.desk_state.specs.Stands.{Stands};
-ghost use Rattle.gk_io.specs.Faults.{Rose};
-ghost use Rattle.gk_io.specs.Shelf.{KeepsFiles};
+ghost use Rattle.gk_io.specs.Devices.{PassesShelf, PassesClock};
 ghost use Rattle.rule_values.specs.Kind.{kind_of};
 ghost use Rattle.assess_command.specs.Files.{code_of};
 ghost use Rattle.run_status.specs.Files.{SaysOnFile};
 ghost use Rattle.run_status.specs.Said.{IsSpoken};
 ghost use Rattle.file_assessment.specs.declared.limits.TheConstants.{MOST_CODE_BYTES};
-ghost use Rattle.file_assessment.specs.Assessing.{SaysAssess, SaysWithCode, SaysByClock, SaysAt, name_of, status_of};
+ghost use Rattle.file_assessment.specs.Assessing.{SaysAssess, SaysWithCode, SaysByClock, SaysAt, HasFile, HasCode, HasFiles, name_of, status_of};
 ghost use Rattle.file_assessment.specs.Assessing as spec;
 
 use crate::limits::{MOST_CODE_BYTES, MOST_SIGNATURE_BYTES};
@@ -34,14 +33,9 @@ pub fn assess<H: Shelf, C: Clock>(
 ) -> Result<Said, Stop>
     ensures says { (o : Opening) (h : List Event) → Stands desk.old o h → IfOk result (λ said. SaysAssess o h (H.files shelf.old) (C.moments clock.old) (kind_of kind) name.now (name_of code.entry) said.status said.text) }
     ensures spoken { IfOk result (λ said. IsSpoken said.status) }
-    ensures kept { KeepsFiles (H.files shelf.old) (H.files shelf.new) }
-    ensures later { H.faults shelf.old ≤ H.faults shelf.new }
-    ensures cause { result ≡ Err Stop.ShelfFault → Rose (H.faults shelf.old) (H.faults shelf.new) }
-    ensures steady { result ≢ Err Stop.ShelfFault → H.faults shelf.new ≡ H.faults shelf.old }
-    ensures clock_telling { is_some (C.moments clock.new) ≡ is_some (C.moments clock.old) }
-    ensures clock_later { C.faults clock.old ≤ C.faults clock.new }
-    ensures clock_cause { result ≡ Err Stop.ClockFault → Rose (C.faults clock.old) (C.faults clock.new) }
-    ensures clock_steady { result ≢ Err Stop.ClockFault → C.faults clock.new ≡ C.faults clock.old }
+    ensures reached { result ≡ Err Stop.ClockFault → HasFiles (H.files shelf.old) name.now (name_of code.entry) }
+    ensures shelf { PassesShelf (result ≡ Err Stop.ShelfFault) (result ≡ Err Stop.ShelfFault) (H.files shelf.old) (H.files shelf.new) (H.faults shelf.old) (H.faults shelf.new) }
+    ensures clock { PassesClock (result ≡ Err Stop.ClockFault) (result ≡ Err Stop.ClockFault) (C.moments clock.old) (C.moments clock.new) (C.faults clock.old) (C.faults clock.new) }
 {
     match fetch_file(alloc, shelf, name, MOST_SIGNATURE_BYTES)? {
         Asked::File(signature) => {
@@ -62,14 +56,9 @@ fn with_signature<H: Shelf, C: Clock>(
 ) -> Result<Said, Stop>
     ensures says { (o : Opening) (h : List Event) → Stands desk.old o h → IfOk result (λ said. SaysWithCode o h (H.files shelf.old) (C.moments clock.old) (kind_of kind) (name_of code.entry) signature.now said.status said.text) }
     ensures spoken { IfOk result (λ said. IsSpoken said.status) }
-    ensures kept { KeepsFiles (H.files shelf.old) (H.files shelf.new) }
-    ensures later { H.faults shelf.old ≤ H.faults shelf.new }
-    ensures cause { result ≡ Err Stop.ShelfFault → Rose (H.faults shelf.old) (H.faults shelf.new) }
-    ensures steady { result ≢ Err Stop.ShelfFault → H.faults shelf.new ≡ H.faults shelf.old }
-    ensures clock_telling { is_some (C.moments clock.new) ≡ is_some (C.moments clock.old) }
-    ensures clock_later { C.faults clock.old ≤ C.faults clock.new }
-    ensures clock_cause { result ≡ Err Stop.ClockFault → Rose (C.faults clock.old) (C.faults clock.new) }
-    ensures clock_steady { result ≢ Err Stop.ClockFault → C.faults clock.new ≡ C.faults clock.old }
+    ensures reached { result ≡ Err Stop.ClockFault → HasCode (H.files shelf.old) (name_of code.entry) }
+    ensures shelf { PassesShelf (result ≡ Err Stop.ShelfFault) (result ≡ Err Stop.ShelfFault) (H.files shelf.old) (H.files shelf.new) (H.faults shelf.old) (H.faults shelf.new) }
+    ensures clock { PassesClock (result ≡ Err Stop.ClockFault) (result ≡ Err Stop.ClockFault) (C.moments clock.old) (C.moments clock.new) (C.faults clock.old) (C.faults clock.new) }
 {
     match code {
         Some(name) => with_code(alloc, desk, kind, signature, name, shelf, clock),
@@ -88,14 +77,9 @@ fn with_code<H: Shelf, C: Clock>(
 ) -> Result<Said, Stop>
     ensures says { (o : Opening) (h : List Event) → Stands desk.old o h → IfOk result (λ said. SaysOnFile (λ code. SaysByClock o h (C.moments clock.old) (kind_of kind) signature.now (Some code)) (H.files shelf.old) name.now MOST_CODE_BYTES said.status said.text) }
     ensures spoken { IfOk result (λ said. IsSpoken said.status) }
-    ensures kept { KeepsFiles (H.files shelf.old) (H.files shelf.new) }
-    ensures later { H.faults shelf.old ≤ H.faults shelf.new }
-    ensures cause { result ≡ Err Stop.ShelfFault → Rose (H.faults shelf.old) (H.faults shelf.new) }
-    ensures steady { result ≢ Err Stop.ShelfFault → H.faults shelf.new ≡ H.faults shelf.old }
-    ensures clock_telling { is_some (C.moments clock.new) ≡ is_some (C.moments clock.old) }
-    ensures clock_later { C.faults clock.old ≤ C.faults clock.new }
-    ensures clock_cause { result ≡ Err Stop.ClockFault → Rose (C.faults clock.old) (C.faults clock.new) }
-    ensures clock_steady { result ≢ Err Stop.ClockFault → C.faults clock.new ≡ C.faults clock.old }
+    ensures reached { result ≡ Err Stop.ClockFault → HasFile (H.files shelf.old) name.now MOST_CODE_BYTES }
+    ensures shelf { PassesShelf (result ≡ Err Stop.ShelfFault) (result ≡ Err Stop.ShelfFault) (H.files shelf.old) (H.files shelf.new) (H.faults shelf.old) (H.faults shelf.new) }
+    ensures clock { PassesClock (result ≡ Err Stop.ClockFault) (result ≡ Err Stop.ClockFault) (C.moments clock.old) (C.moments clock.new) (C.faults clock.old) (C.faults clock.new) }
 {
     match fetch_file(alloc, shelf, name, MOST_CODE_BYTES)? {
         Asked::File(code) => by_clock(alloc, desk, kind, signature, Some(code.as_slice()), clock),
@@ -113,11 +97,8 @@ fn by_clock<C: Clock>(
 ) -> Result<Said, Stop>
     ensures says { (o : Opening) (h : List Event) → Stands desk.old o h → IfOk result (λ said. SaysByClock o h (C.moments clock.old) (kind_of kind) signature.now (code_of code.entry) said.status said.text) }
     ensures spoken { IfOk result (λ said. IsSpoken said.status) }
-    ensures shelf { result ≢ Err Stop.ShelfFault }
-    ensures clock_telling { is_some (C.moments clock.new) ≡ is_some (C.moments clock.old) }
-    ensures clock_later { C.faults clock.old ≤ C.faults clock.new }
-    ensures clock_cause { result ≡ Err Stop.ClockFault → Rose (C.faults clock.old) (C.faults clock.new) }
-    ensures clock_steady { result ≢ Err Stop.ClockFault → C.faults clock.new ≡ C.faults clock.old }
+    ensures unasked { result ≢ Err Stop.ShelfFault }
+    ensures clock { PassesClock (result ≡ Err Stop.ClockFault) (result ≡ Err Stop.ClockFault) (C.moments clock.old) (C.moments clock.new) (C.faults clock.old) (C.faults clock.new) }
 {
     let now = clock.now()?;
     Ok(said_at(alloc, desk, kind, signature, code, now)?)

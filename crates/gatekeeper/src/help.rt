@@ -22,8 +22,8 @@ usage: gatekeeper [--facts NAME] STORE COMMAND [WORDS]
   --help, -h, --version, -V      show this text or the version, in the place of STORE
 
 STORE is a SQLite file, which is made if it isn't there, or :memory:. --facts names a file of what is known of code.
-Words that begin with - stand behind --. gatekeeper(1) tells the lines, their answers and the exit statuses, and
-gatekeeper-formats(5) the files.
+Words that begin with - stand behind --. gatekeeper(1) tells the lines, their answers and the exit statuses,
+gatekeeper-formats(5) the files, and gatekeeper-requirements(7) the language of requirements.
 ";
 
 const VERSION: &[u8] = b"gatekeeper 0.1.0\n";

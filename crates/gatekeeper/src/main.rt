@@ -4,6 +4,7 @@
 mod help;
 
 use command_words::store_word;
+use fault_marks::{NotedShelf, Seen, has_text, told};
 use gk_io::{FileShelf, StdSink, StdSource, SystemClock};
 use spctl_cli::{Status, run};
 use sql_keeper::ProgramKeeper;
@@ -60,7 +61,7 @@ fn by_words(rt: &HostRuntime, words: &[&str]) -> Status {
 fn over_store(rt: &HostRuntime, words: &[&str], store: &str) -> Status {
     let mut input = StdSource::new(rt.reader());
     let mut output = StdSink::new(io::writer(rt));
-    let mut shelf = FileShelf::new(rt);
+    let mut shelf = NotedShelf::new(FileShelf::new(rt), has_text(rt.alloc(), words));
     let mut keeper = ProgramKeeper::named(rt, store);
     let mut clock = SystemClock::new(rt);
     let status = run(
@@ -73,5 +74,13 @@ fn over_store(rt: &HostRuntime, words: &[&str], store: &str) -> Status {
         &mut clock,
     );
     keeper.close();
+    tell(rt, words, status, shelf.seen());
     status
+}
+
+/// What a person may want to know goes to standard error; whether it can be written doesn't matter.
+fn tell(rt: &HostRuntime, words: &[&str], status: Status, seen: Option<&Seen>) {
+    if let Ok(text) = told(rt.alloc(), words, status, seen) {
+        let _ = rt.eprint(text.as_str());
+    }
 }

@@ -1,9 +1,10 @@
--- What a reply leaves to the session: whether it goes on, which device failed, and what is flushed.
-use Rattle.std.proofs.Common.{◌≡◌, ◌≢◌, ℕ, List, Option, None, Some, IfNone}
-use Rattle.gk_io.specs.Told.{IsFlushed}
-use Rattle.line_session.specs.Going.{Blames, BlamesSink, StaysFlushed, end_after}
+-- What a reply leaves to the session: whether it goes on, and what became of the devices.
+use Rattle.std.proofs.Common.{◌≡◌, ◌≢◌, ℕ, List, Option, None, Some, IfNone, refl}
+use Rattle.gk_io.specs.Devices.{PassesSink}
+use Rattle.line_session.proofs.Devices.{sink_as}
+use Rattle.line_session.specs.Going.{end_after}
 use Rattle.line_session.specs.declared.ended.Ended.{Ended}
-use Rattle.line_session.specs.declared.ended.Ended.TheVariants.{Fine}
+use Rattle.line_session.specs.declared.ended.Ended.TheVariants.{Fine, ReadFault, WriteFault}
 use Rattle.line_session.specs.declared.reply.Reply.{Reply}
 use Rattle.line_session.specs.declared.reply.Reply.TheVariants.{Whole, Broken, Unanswered}
 
@@ -18,26 +19,26 @@ last_ends P Whole = tt
 last_ends P Broken = tt
 last_ends P Unanswered = tt
 
--- the source didn't fail, and the sink did where the reply is broken
-pub line_blames : (reply : Reply) (read reads sent sends : ℕ) → reads ≡ read → BlamesSink reply sent sends → Blames (end_after reply None) read reads sent sends
-line_blames Whole read reads sent sends same sink = (same, sink)
-line_blames Broken read reads sent sends same sink = (same, sink)
-line_blames Unanswered read reads sent sends same sink = (same, sink)
+-- a reply isn't the source's failure
+pub still_read : (reply : Reply) (whole end : Option Ended) → end ≡ end_after reply whole → whole ≢ Some ReadFault → end ≡ Some ReadFault → ⊥
+still_read Whole whole end is never fault = never (cc)
+still_read Broken whole end is never fault = cc
+still_read Unanswered whole end is never fault = cc
 
-pub last_blames : (reply : Reply) (read reads sent sends : ℕ) → reads ≡ read → BlamesSink reply sent sends → Blames (end_after reply (Some Fine)) read reads sent sends
-last_blames Whole read reads sent sends same sink = (same, sink)
-last_blames Broken read reads sent sends same sink = (same, sink)
-last_blames Unanswered read reads sent sends same sink = (same, sink)
+-- the sink failed where the reply is broken
+breaks : (reply : Reply) (whole end : Option Ended) → end ≡ end_after reply whole → whole ≢ Some WriteFault → end ≡ Some WriteFault → reply ≡ Broken
+breaks Whole whole end is never fault = absurd (never (cc))
+breaks Broken whole end is never fault = refl
+breaks Unanswered whole end is never fault = cc
 
--- a reply that isn't broken is flushed
-pub line_flushed : (reply : Reply) (flushed flushes written writes : Option (List ℕ)) → (reply ≢ Broken → IsFlushed flushed written → IsFlushed flushes writes)
-    → StaysFlushed (end_after reply None) flushed flushes written writes
-line_flushed Whole flushed flushes written writes h = h (λ e. cc)
-line_flushed Broken flushed flushes written writes h = tt
-line_flushed Unanswered flushed flushes written writes h = h (λ e. cc)
+broken : (reply : Reply) (whole end : Option Ended) → end ≡ end_after reply whole → reply ≡ Broken → end ≡ Some WriteFault
+broken Whole whole end is b = cc
+broken Broken whole end is b = is
+broken Unanswered whole end is b = cc
 
-pub last_flushed : (reply : Reply) (flushed flushes written writes : Option (List ℕ)) → (reply ≢ Broken → IsFlushed flushed written → IsFlushed flushes writes)
-    → StaysFlushed (end_after reply (Some Fine)) flushed flushes written writes
-last_flushed Whole flushed flushes written writes h = h (λ e. cc)
-last_flushed Broken flushed flushes written writes h = tt
-last_flushed Unanswered flushed flushes written writes h = h (λ e. cc)
+pub sink_after : (reply : Reply) (whole end : Option Ended) (written sent flushed flushes : Option (List ℕ)) (before counted : ℕ) → end ≡ end_after reply whole → whole ≢ Some WriteFault
+    → PassesSink (reply ≡ Broken) (reply ≡ Broken) written sent flushed flushes before counted
+    → PassesSink (end ≡ Some WriteFault) (end ≡ Some WriteFault) written sent flushed flushes before counted
+sink_after reply whole end written sent flushed flushes before counted is never p =
+    sink_as (reply ≡ Broken) (reply ≡ Broken) (end ≡ Some WriteFault) (end ≡ Some WriteFault) written sent flushed flushes before counted
+    (breaks reply whole end is never) (broken reply whole end is) p

@@ -1,4 +1,5 @@
 pub mod ToldBytes
+pub mod Devices
 pub mod OneLineMore
 pub mod SessionEnds
 pub mod AfterAReply

@@ -23,9 +23,9 @@ pub whole_more : (lines : List (List ℕ)) (line : List ℕ) → All HasNoLf lin
 whole_more lines line h k = All-append HasNoLf lines (line ∷ []) h (all_one line k)
 
 -- a line was answered, and its reply was written
-pub one_more : (A B : List (List ℕ) → List (List ℕ) → Type 0) (start first old new : Option (List ℕ)) (s t : Stream) (held : List ℕ)
-    → (going : IsGoing A start s first old) → (line : IsLine s t held) → IsReplied B old new line.bytes going.lines going.replies Whole → IsGoing B start t first new
-one_more A B start first old new s t held going line replied = record {
+pub one_more : (T : List ℕ → Type 0) (A B : List (List ℕ) → List (List ℕ) → Type 0) (start first old new : Option (List ℕ)) (s t : Stream) (held : List ℕ)
+    → (going : IsGoing A start s first old) → (line : IsLine s t held) → IsReplied T B old new line.bytes going.lines going.replies Whole → IsGoing B start t first new
+one_more T A B start first old new s t held going line replied = record {
   lines = going.lines ++ line.bytes ∷ [];
   replies = going.replies ++ replied.0 ∷ [];
   taken = subst (Consumes start t.unread) (sym (text_of-more going.lines line.bytes))

@@ -9,11 +9,11 @@ use Rattle.line_reader.specs.declared.reader.LineReader.{LineReader}
 use Rattle.line_reader.specs.Laws.{LinesAddUp}
 use Rattle.line_reader.specs.declared.limits.TheConstants.{SESSION_BYTES, SESSION_LINES}
 use Rattle.line_text.specs.declared.limits.TheConstants.{LINE_HELD}
-use Rattle.line_session.specs.Ends.{EndsFine, StopsBefore, BreaksOff, AtReadFault, AtLimit, AtWant}
+use Rattle.line_session.specs.Ends.{EndsFine, StopsBefore, BreaksOff, AtReadFault, AtLimit, AtWant, IsEnd}
 use Rattle.line_session.specs.Replies.{IsReplied}
 use Rattle.line_session.specs.declared.reply.Reply.{Reply}
 use Rattle.line_session.specs.declared.reply.Reply.TheVariants.{Whole, Broken, Unanswered}
-use Rattle.line_session.specs.Going.{IsGoing, IsEnd, IsTurn, end_after}
+use Rattle.line_session.specs.Going.{IsGoing, IsTurn, end_after}
 use Rattle.line_session.specs.declared.ended.Ended.{Ended}
 use Rattle.line_session.specs.declared.ended.Ended.TheVariants.{Fine, ReadFault, WriteFault, TooLong, OutOfMemory}
 use Rattle.line_session.proofs.OneLineMore.{one_more, text_of-more, whole_more}
@@ -42,27 +42,32 @@ whole_within laws lines whole most size =
     subst IsWithin (append-nil (text_of lines)) (laws.within lines [] whole (λ k d h. absurd (omega arith)) most (λ some. absurd (omega (arith, some))) (grind (arith, size)))
 
 -- a session that couldn't begin
-pub stops_at_once : (A : List (List ℕ) → List (List ℕ) → Type 0) (left first : Option (List ℕ)) → A [] [] → StopsBefore AtWant A left left first first
-stops_at_once A left first a = record {
+pub stops_at_once : (T : List ℕ → Type 0) (A : List (List ℕ) → List (List ℕ) → Type 0) (left first : Option (List ℕ)) → A [] [] → StopsBefore (AtWant T) A left left first first
+stops_at_once T A left first a = record {
   lines = [];
   rest = [];
   replies = [];
   taken = Consumes-nil left;
   whole = λ k d h. absurd (omega arith);
   within = record { lines = omega arith; size = omega arith };
-  why = tt;
+  why = inl (refl, refl);
   put = Appends-nil first;
   answered = a;
 }
 
+-- a line and its LF stand before the other lines
+front_line : (laws : LinesAddUp) (line behind : List ℕ) → HasNoLf line → lines_of (line ++ 10 ∷ behind) ≡ line ∷ lines_of behind
+front_line laws line behind no_lf =
+    ap lines_of (sym (append_assoc line (10 ∷ []) behind) ∙ ap (λ (l : List ℕ). l ++ behind) (sym (append-nil (with_lf line)))) ∙ laws.first (line ∷ []) behind (whole_more [] line (λ k d h. absurd (omega arith)) no_lf)
+
 -- however it ended, some lines were answered
-pub is_answered : (A : List (List ℕ) → List (List ℕ) → Type 0) (start left first sent : Option (List ℕ)) (end : Ended) → IsEnd A start left first sent end
+pub is_answered : (T : List ℕ → Type 0) (A : List (List ℕ) → List (List ℕ) → Type 0) (start left first sent : Option (List ℕ)) (end : Ended) → IsEnd T A start left first sent end
     → (lines replies : List (List ℕ)) × A lines replies
-is_answered A start left first sent Fine e = (lines_of e.bytes, e.replies, e.answered)
-is_answered A start left first sent ReadFault e = (e.lines, e.replies, e.answered)
-is_answered A start left first sent WriteFault e = (e.lines ++ e.line ∷ [], e.replies ++ e.reply ∷ [], e.answered)
-is_answered A start left first sent TooLong e = (e.lines, e.replies, e.answered)
-is_answered A start left first sent OutOfMemory e = (e.lines, e.replies, e.answered)
+is_answered T A start left first sent Fine e = (lines_of e.bytes, e.replies, e.answered)
+is_answered T A start left first sent ReadFault e = (e.lines, e.replies, e.answered)
+is_answered T A start left first sent WriteFault e = (e.lines ++ e.line ∷ [], e.replies ++ e.reply ∷ [], e.answered)
+is_answered T A start left first sent TooLong e = (e.lines, e.replies, e.answered)
+is_answered T A start left first sent OutOfMemory e = (e.lines, e.replies, e.answered)
 
 -- bytes that run past the limits are no told session within them
 pub too_long : (apart : (bytes : List ℕ) → IsWithin bytes → RunsPast bytes → ⊥) (onward : (bytes more : List ℕ) → RunsPast bytes → RunsPast (bytes ++ more)) (A : List (List ℕ) → List (List ℕ) → Type 0) (left now written sent : Option (List ℕ)) (bytes : List ℕ) → left ≡ Some bytes → StopsBefore AtLimit A left now written sent → IsWithin bytes → ⊥
@@ -81,7 +86,7 @@ read_within apart A (Some us) (Some vs) written sent bytes told ends past =
     let all : ends.bytes ≡ bytes = sym (append-nil ends.bytes) ∙ ap (λ l. ends.bytes ++ l) (sym ends.at_end) ∙ sym ends.taken ∙ same in
     apart bytes (subst IsWithin all ends.within) past
 
-module _ (laws : LinesAddUp) (A B : List (List ℕ) → List (List ℕ) → Type 0) (start left first old new : Option (List ℕ)) (s : Stream) (r : LineReader) (held : List ℕ) (going : IsGoing A start s first old) where
+module _ (laws : LinesAddUp) (T : List ℕ → Type 0) (A B : List (List ℕ) → List (List ℕ) → Type 0) (start left first old new : Option (List ℕ)) (s : Stream) (r : LineReader) (held : List ℕ) (going : IsGoing A start s first old) where
   -- a line and its LF were lost, and what is pending behind them
   line_lost : (line : IsLine s (stream r left) held) → Consumes start left (text_of going.lines ++ (line.bytes ++ 10 ∷ pending r))
   line_lost line =
@@ -121,7 +126,7 @@ module _ (laws : LinesAddUp) (A B : List (List ℕ) → List (List ℕ) → Type
       (grind (arith, size, line.size, going.size, ap length (text_of-more going.lines line.bytes), length-append (text_of going.lines) (with_lf line.bytes), length-append line.bytes (10 ∷ []))))
 
   -- a line's reply isn't whole
-  line_broken : (line : IsLine s (stream r left) held) → r.lines ≤ SESSION_LINES → r.bytes ≤ SESSION_BYTES → IsReplied B old new line.bytes going.lines going.replies Broken → BreaksOff B start left first new
+  line_broken : (line : IsLine s (stream r left) held) → r.lines ≤ SESSION_LINES → r.bytes ≤ SESSION_BYTES → IsReplied T B old new line.bytes going.lines going.replies Broken → BreaksOff B start left first new
   line_broken line most size replied = record {
     lines = going.lines;
     line = line.bytes;
@@ -138,7 +143,7 @@ module _ (laws : LinesAddUp) (A B : List (List ℕ) → List (List ℕ) → Type
   }
 
   -- a line wasn't answered
-  line_unanswered : (line : IsLine s (stream r left) held) → r.lines ≤ SESSION_LINES → r.bytes ≤ SESSION_BYTES → IsReplied B old new line.bytes going.lines going.replies Unanswered → StopsBefore AtWant B start left first new
+  line_unanswered : (line : IsLine s (stream r left) held) → r.lines ≤ SESSION_LINES → r.bytes ≤ SESSION_BYTES → IsReplied T B old new line.bytes going.lines going.replies Unanswered → StopsBefore (AtWant T) B start left first new
   line_unanswered line most size replied = record {
     lines = going.lines;
     rest = line.bytes ++ 10 ∷ pending r;
@@ -146,14 +151,14 @@ module _ (laws : LinesAddUp) (A B : List (List ℕ) → List (List ℕ) → Type
     taken = line_lost line;
     whole = going.whole;
     within = answered_within (grind (arith, most, line.lines)) (grind (arith, size, line.size));
-    why = tt;
+    why = inr (line.bytes, lines_of (pending r), front_line laws line.bytes (pending r) line.no_lf, replied.2);
     put = put_kept first old new (text_of going.replies) going.put replied.0;
     answered = replied.1;
   }
 
   -- a last line was answered
   last_fine : (part : IsPart s (stream r left) held) → held ≢ [] → IsAtEnd (prepend_known (pending r) left) → r.lines ≤ SESSION_LINES → r.bytes ≤ SESSION_BYTES
-      → IsReplied B old new part.bytes going.lines going.replies Whole → EndsFine B start left first new
+      → IsReplied T B old new part.bytes going.lines going.replies Whole → EndsFine B start left first new
   last_fine part some end most size replied = record {
     bytes = text_of going.lines ++ part.bytes;
     replies = going.replies ++ replied.0 ∷ [];
@@ -167,7 +172,7 @@ module _ (laws : LinesAddUp) (A B : List (List ℕ) → List (List ℕ) → Type
         replied.2;
   }
 
-  last_broken : (part : IsPart s (stream r left) held) → held ≢ [] → IsAtEnd (prepend_known (pending r) left) → r.lines ≤ SESSION_LINES → r.bytes ≤ SESSION_BYTES → IsReplied B old new part.bytes going.lines going.replies Broken → BreaksOff B start left first new
+  last_broken : (part : IsPart s (stream r left) held) → held ≢ [] → IsAtEnd (prepend_known (pending r) left) → r.lines ≤ SESSION_LINES → r.bytes ≤ SESSION_BYTES → IsReplied T B old new part.bytes going.lines going.replies Broken → BreaksOff B start left first new
   last_broken part some end most size replied = record {
     lines = going.lines;
     line = part.bytes;
@@ -183,15 +188,15 @@ module _ (laws : LinesAddUp) (A B : List (List ℕ) → List (List ℕ) → Type
     answered = replied.3;
   }
 
-  last_unanswered : (part : IsPart s (stream r left) held) → IsAtEnd (prepend_known (pending r) left) → r.lines ≤ SESSION_LINES → r.bytes ≤ SESSION_BYTES → IsReplied B old new part.bytes going.lines going.replies Unanswered → StopsBefore AtWant B start left first new
-  last_unanswered part end most size replied = record {
+  last_unanswered : (part : IsPart s (stream r left) held) → held ≢ [] → IsAtEnd (prepend_known (pending r) left) → r.lines ≤ SESSION_LINES → r.bytes ≤ SESSION_BYTES → IsReplied T B old new part.bytes going.lines going.replies Unanswered → StopsBefore (AtWant T) B start left first new
+  last_unanswered part some end most size replied = record {
     lines = going.lines;
     rest = part.bytes;
     replies = going.replies;
     taken = last_lost part end;
     whole = going.whole;
     within = answered_within (grind (arith, most, part.lines)) (grind (arith, size, part.size));
-    why = tt;
+    why = inr (part.bytes, [], laws.last part.bytes (some_held LINE_HELD held part.bytes part.front some) part.no_lf, replied.2);
     put = put_kept first old new (text_of going.replies) going.put replied.0;
     answered = replied.1;
   }
@@ -243,15 +248,15 @@ module _ (laws : LinesAddUp) (A B : List (List ℕ) → List (List ℕ) → Type
   }
 
   -- a line was answered, or not, and the session goes on or ends
-  pub line_turn : (line : IsLine s (stream r left) held) → r.lines ≤ SESSION_LINES → r.bytes ≤ SESSION_BYTES → (reply : Reply) → IsReplied B old new line.bytes going.lines going.replies reply
-      → IsTurn B start left (stream r left) first new (end_after reply None)
-  line_turn line most size Whole replied = one_more A B start first old new s (stream r left) held going line replied
+  pub line_turn : (line : IsLine s (stream r left) held) → r.lines ≤ SESSION_LINES → r.bytes ≤ SESSION_BYTES → (reply : Reply) → IsReplied T B old new line.bytes going.lines going.replies reply
+      → IsTurn T B start left (stream r left) first new (end_after reply None)
+  line_turn line most size Whole replied = one_more T A B start first old new s (stream r left) held going line replied
   line_turn line most size Broken replied = line_broken line most size replied
   line_turn line most size Unanswered replied = line_unanswered line most size replied
 
   -- and so it is with a last line, but that the session ends
   pub last_turn : (part : IsPart s (stream r left) held) → held ≢ [] → IsAtEnd (prepend_known (pending r) left) → r.lines ≤ SESSION_LINES → r.bytes ≤ SESSION_BYTES
-      → (reply : Reply) → IsReplied B old new part.bytes going.lines going.replies reply → IsTurn B start left (stream r left) first new (end_after reply (Some Fine))
+      → (reply : Reply) → IsReplied T B old new part.bytes going.lines going.replies reply → IsTurn T B start left (stream r left) first new (end_after reply (Some Fine))
   last_turn part some end most size Whole replied = last_fine part some end most size replied
   last_turn part some end most size Broken replied = last_broken part some end most size replied
-  last_turn part some end most size Unanswered replied = last_unanswered part end most size replied
+  last_turn part some end most size Unanswered replied = last_unanswered part some end most size replied

@@ -1,9 +1,12 @@
 -- What a session has read, answered and written when it ends. This project's own.
-use Rattle.std.specs.Prelude.{◌≡◌, ◌≢◌, ℕ, ◌-◌, ◌⊎◌, List, [], ◌∷◌, ◌++◌, Option, All, length, take, ⊤}
+use Rattle.std.specs.Prelude.{◌≡◌, ◌≢◌, ℕ, ◌-◌, ◌⊎◌, List, [], ◌∷◌, ◌++◌, Option, All, length, take}
 use Rattle.std.specs.Io.KnownBytes.{Appends, Consumes, IsAtEnd}
+use Rattle.line_text.specs.declared.limits.TheConstants.{LINE_HELD}
 use Rattle.line_reader.specs.Lines.{lines_of, text_of, with_lf, HasNoLf}
 use Rattle.line_reader.specs.Limits.{IsWithin, RunsPast}
 use Rattle.line_reader.specs.declared.limits.TheConstants.{SESSION_BYTES, SESSION_LINES}
+use Rattle.line_session.specs.declared.ended.Ended.{Ended}
+use Rattle.line_session.specs.declared.ended.Ended.TheVariants.{Fine, ReadFault, WriteFault, TooLong, OutOfMemory}
 
 -- the whole input was read, and the replies to its lines were written, each with its LF
 pub record EndsFine (Answered : List (List ℕ) → List (List ℕ) → Type 0) (left now written sent : Option (List ℕ)) : Type 0 where
@@ -35,9 +38,11 @@ AtReadFault lines rest = HasNoLf rest × IsWithin (text_of lines ++ rest)
 abbrev pub AtLimit : List (List ℕ) → List ℕ → Type 0
 AtLimit lines rest = RunsPast (text_of lines ++ rest) × ((length lines ≡ SESSION_LINES) ⊎ HasNoLf (take (SESSION_BYTES - length (text_of lines)) rest))
 
--- memory may run out anywhere
-abbrev pub AtWant : List (List ℕ) → List ℕ → Type 0
-AtWant lines rest = ⊤
+-- memory runs out before the first byte is read, or at a line that takes some; at most the first LINE_HELD bytes of it are seen
+abbrev pub AtWant : (List ℕ → Type 0) → List (List ℕ) → List ℕ → Type 0
+AtWant Takes lines rest =
+    ((lines ≡ []) × (rest ≡ []))
+    ⊎ ((line : List ℕ) × (others : List (List ℕ)) × (lines_of rest ≡ line ∷ others) × Takes (take LINE_HELD line))
 
 -- what stands behind a line: its LF, or at the end nothing, and then the line isn't empty
 abbrev pub EndsLine : List ℕ → List ℕ → Option (List ℕ) → Type 0
@@ -58,3 +63,11 @@ pub record BreaksOff (Answered : List (List ℕ) → List (List ℕ) → Type 0)
   pub ended : EndsLine line rest now
   pub put : Appends written sent (text_of replies ++ take count (with_lf reply))
   pub answered : Answered (lines ++ line ∷ []) (replies ++ reply ∷ [])
+
+-- what a session has done, by its end; memory runs out only at lines of which Takes holds
+abbrev pub IsEnd : (List ℕ → Type 0) → (List (List ℕ) → List (List ℕ) → Type 0) → Option (List ℕ) → Option (List ℕ) → Option (List ℕ) → Option (List ℕ) → Ended → Type 0
+IsEnd Takes Answered left now written sent Fine = EndsFine Answered left now written sent
+IsEnd Takes Answered left now written sent ReadFault = StopsBefore AtReadFault Answered left now written sent
+IsEnd Takes Answered left now written sent WriteFault = BreaksOff Answered left now written sent
+IsEnd Takes Answered left now written sent TooLong = StopsBefore AtLimit Answered left now written sent
+IsEnd Takes Answered left now written sent OutOfMemory = StopsBefore (AtWant Takes) Answered left now written sent

@@ -1,8 +1,8 @@
 //! One line that goes out.
 
-ghost use Rattle.std.specs.Prelude.{◌≡◌, ◌≤◌, length, OnOk, OnErr, is_some};
+ghost use Rattle.std.specs.Prelude.{◌≤◌, length, OnOk, IsErr};
 ghost use Rattle.line_text.specs.LineText.{line_bytes};
-ghost use Rattle.gk_io.specs.Faults.{Rose};
+ghost use Rattle.gk_io.specs.Devices.{PassesSink};
 ghost use Rattle.gk_io.specs.Told.{IsFlushed, PutAppends};
 ghost use Rattle.line_reader.specs.Lines.{with_lf};
 ghost use Rattle.line_session.specs.declared.limits.TheConstants.{REPLY_LIMIT};
@@ -16,11 +16,8 @@ pub fn write_line<W: Sink>(output: &mut W, text: &mut LineText) -> Result<(), Fa
     ensures bytes { PutAppends (W.written output.old) (W.written output.new) result
         (with_lf (line_bytes text.old)) }
     ensures flushed { OnOk result (IsFlushed (W.flushed output.new) (W.written output.new)) }
-    ensures telling { is_some (W.written output.new) ≡ is_some (W.written output.old) }
-    ensures flushed_telling { is_some (W.flushed output.new) ≡ is_some (W.flushed output.old) }
-    ensures later { W.faults output.old ≤ W.faults output.new }
-    ensures cause { OnErr result (Rose (W.faults output.old) (W.faults output.new)) }
-    ensures steady { OnOk result (W.faults output.new ≡ W.faults output.old) }
+    ensures output { PassesSink (IsErr result) (IsErr result) (W.written output.old) (W.written output.new)
+        (W.flushed output.old) (W.flushed output.new) (W.faults output.old) (W.faults output.new) }
 {
     text.push(b'\n');
     output.put(text.as_slice())?;

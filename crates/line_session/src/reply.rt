@@ -1,10 +1,9 @@
 //! One line's reply.
 
-ghost use Rattle.std.specs.Prelude.{◌≡◌, ◌≢◌, ℕ, List, [], ◌∷◌, ◌++◌, is_some, length, take};
-ghost use Rattle.line_text.specs.LineText.{line_bytes};
+ghost use Rattle.std.specs.Prelude.{◌≡◌, ℕ, List, take};
 ghost use Rattle.line_text.specs.declared.limits.TheConstants.{LINE_HELD};
-ghost use Rattle.gk_io.specs.Told.{IsFlushed};
-ghost use Rattle.line_session.specs.Going.{BlamesSink, StaysTold, end_after};
+ghost use Rattle.gk_io.specs.Devices.{PassesSink};
+ghost use Rattle.line_session.specs.Going.{end_after};
 ghost use Rattle.line_session.specs.Replies.{IsReplied};
 
 use crate::ended::Ended;
@@ -50,13 +49,11 @@ pub fn reply_to<R: Responder, W: Sink>(
     ensures ready { R.ready responder.new }
     ensures replied { (begin : R) (whole : List ℕ) (lines replies : List (List ℕ))
         → line.now ≡ take LINE_HELD whole → R.answered begin responder.old lines replies
-        → IsReplied (R.answered begin responder.new) (W.written output.old) (W.written output.new)
+        → IsReplied R.takes_memory (R.answered begin responder.new) (W.written output.old) (W.written output.new)
         whole lines replies result }
-    ensures flushed { result ≢ Reply.Broken → IsFlushed (W.flushed output.old) (W.written output.old)
-        → IsFlushed (W.flushed output.new) (W.written output.new) }
-    ensures telling { StaysTold (W.written output.old) (W.written output.new) }
-    ensures flushed_telling { StaysTold (W.flushed output.old) (W.flushed output.new) }
-    ensures cause { BlamesSink result (W.faults output.old) (W.faults output.new) }
+    ensures output { PassesSink (result ≡ Reply.Broken) (result ≡ Reply.Broken) (W.written output.old)
+        (W.written output.new) (W.flushed output.old) (W.flushed output.new) (W.faults output.old)
+        (W.faults output.new) }
 {
     text.clear();
     match responder.answer(alloc, line, text) {

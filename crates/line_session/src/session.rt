@@ -1,13 +1,12 @@
 //! The loop over the lines of a session.
 
-ghost use Rattle.std.specs.Prelude.{◌≡◌, ◌≢◌, ◌<◌, ◌≤◌, ℕ, List, [], Option, Some, None, IfNone, is_some};
-ghost use Rattle.gk_io.specs.Faults.{Rose};
-ghost use Rattle.gk_io.specs.Told.{IsFlushed};
+ghost use Rattle.std.specs.Prelude.{◌≡◌, ◌≢◌, ◌<◌, ◌≤◌, ℕ, List, [], Option, Some, IfNone};
+ghost use Rattle.gk_io.specs.Devices.{PassesSource, PassesSink};
 ghost use Rattle.line_reader.specs.Limits.{IsWithin, RunsPast};
 ghost use Rattle.line_reader.specs.Reading.{pending, stream, lines_handed, bytes_handed};
 ghost use Rattle.line_reader.specs.declared.limits.TheConstants.{SESSION_LINES};
-ghost use Rattle.line_session.specs.Ends.{EndsFine, StopsBefore, BreaksOff, AtReadFault, AtLimit, AtWant};
-ghost use Rattle.line_session.specs.Going.{IsGoing, IsEnd, IsTurn, Blames, StaysFlushed, StaysTold};
+ghost use Rattle.line_session.specs.Ends.{IsEnd};
+ghost use Rattle.line_session.specs.Going.{IsGoing, IsTurn};
 
 use crate::ended::Ended;
 use crate::reply::reply_to;
@@ -31,34 +30,18 @@ pub fn run_session<R: Responder, S: Source, W: Sink>(
     ensures ready { R.ready responder.new }
 
     // What was read, answered and written, by the end.
-    ensures fine { result ≡ Ended.Fine → EndsFine (R.answered responder.old responder.new)
-        (S.left input.old) (S.left input.new) (W.written output.old) (W.written output.new) }
-    ensures read_fault { result ≡ Ended.ReadFault → StopsBefore AtReadFault (R.answered responder.old responder.new)
-        (S.left input.old) (S.left input.new) (W.written output.old) (W.written output.new) }
-    ensures too_long { result ≡ Ended.TooLong → StopsBefore AtLimit (R.answered responder.old responder.new)
-        (S.left input.old) (S.left input.new) (W.written output.old) (W.written output.new) }
-    ensures out_of_memory { result ≡ Ended.OutOfMemory → StopsBefore AtWant (R.answered responder.old responder.new)
-        (S.left input.old) (S.left input.new) (W.written output.old) (W.written output.new) }
-    ensures write_fault { result ≡ Ended.WriteFault → BreaksOff (R.answered responder.old responder.new)
-        (S.left input.old) (S.left input.new) (W.written output.old) (W.written output.new) }
+    ensures ends { IsEnd R.takes_memory (R.answered responder.old responder.new) (S.left input.old) (S.left input.new)
+        (W.written output.old) (W.written output.new) result }
     ensures answered { (lines replies : List (List ℕ)) × R.answered responder.old responder.new lines replies }
-    ensures flushed { result ≢ Ended.WriteFault → IsFlushed (W.flushed output.old) (W.written output.old)
-        → IsFlushed (W.flushed output.new) (W.written output.new) }
 
-    // The causes. A session whose bytes are told ends by its limits only where they run past them, and is fine
-    // only where they don't.
-    ensures read_cause { result ≡ Ended.ReadFault → Rose (S.faults input.old) (S.faults input.new) }
-    ensures write_cause { result ≡ Ended.WriteFault → Rose (W.faults output.old) (W.faults output.new) }
-    ensures read_steady { result ≢ Ended.ReadFault → S.faults input.new ≡ S.faults input.old }
-    ensures write_steady { result ≢ Ended.WriteFault → W.faults output.new ≡ W.faults output.old }
+    // A session whose bytes are told ends by its limits only where they run past them, and is fine only where
+    // they don't.
     ensures within { (bytes : List ℕ) → S.left input.old ≡ Some bytes → IsWithin bytes → result ≢ Ended.TooLong }
     ensures past { (bytes : List ℕ) → S.left input.old ≡ Some bytes → RunsPast bytes → result ≢ Ended.Fine }
-
-    ensures input_telling { is_some (S.left input.new) ≡ is_some (S.left input.old) }
-    ensures output_telling { is_some (W.written output.new) ≡ is_some (W.written output.old) }
-    ensures flushed_telling { is_some (W.flushed output.new) ≡ is_some (W.flushed output.old) }
-    ensures input_later { S.faults input.old ≤ S.faults input.new }
-    ensures output_later { W.faults output.old ≤ W.faults output.new }
+    ensures input { PassesSource (result ≡ Ended.ReadFault) (result ≡ Ended.ReadFault) (S.left input.old) (S.left input.new)
+        (S.faults input.old) (S.faults input.new) }
+    ensures output { PassesSink (result ≡ Ended.WriteFault) (result ≡ Ended.WriteFault) (W.written output.old)
+        (W.written output.new) (W.flushed output.old) (W.flushed output.new) (W.faults output.old) (W.faults output.new) }
 {
     limits_are_passed_once();
     match LineReader::new(alloc) {
@@ -81,15 +64,12 @@ fn all_lines<R: Responder, S: Source, W: Sink>(
     requires answered { R.answered responder.old responder.old [] [] }
     requires ready { R.ready responder.old }
     ensures ready { R.ready responder.new }
-    ensures ends { IsEnd (R.answered responder.old responder.new)
-        (S.left input.old) (S.left input.new) (W.written output.old) (W.written output.new) result }
-    ensures flushed { StaysFlushed (Some result) (W.flushed output.old) (W.flushed output.new)
-        (W.written output.old) (W.written output.new) }
-    ensures cause { Blames (Some result) (S.faults input.old) (S.faults input.new)
-        (W.faults output.old) (W.faults output.new) }
-    ensures input_telling { StaysTold (S.left input.old) (S.left input.new) }
-    ensures output_telling { StaysTold (W.written output.old) (W.written output.new) }
-    ensures flushed_telling { StaysTold (W.flushed output.old) (W.flushed output.new) }
+    ensures ends { IsEnd R.takes_memory (R.answered responder.old responder.new) (S.left input.old) (S.left input.new)
+        (W.written output.old) (W.written output.new) result }
+    ensures input { PassesSource (result ≡ Ended.ReadFault) (result ≡ Ended.ReadFault) (S.left input.old) (S.left input.new)
+        (S.faults input.old) (S.faults input.new) }
+    ensures output { PassesSink (result ≡ Ended.WriteFault) (result ≡ Ended.WriteFault) (W.written output.old)
+        (W.written output.new) (W.flushed output.old) (W.flushed output.new) (W.faults output.old) (W.faults output.new) }
 {
     let mut text = LineText::new();
     loop {
@@ -112,17 +92,14 @@ fn one_line<R: Responder, S: Source, W: Sink>(
     ensures ready { R.ready responder.new }
     ensures goes { (begin : R) (start first : Option (List ℕ))
         → IsGoing (R.answered begin responder.old) start (stream reader.old (S.left input.old)) first (W.written output.old)
-        → IsTurn (R.answered begin responder.new) start (S.left input.new) (stream reader.new (S.left input.new))
+        → IsTurn R.takes_memory (R.answered begin responder.new) start (S.left input.new) (stream reader.new (S.left input.new))
         first (W.written output.new) result }
     ensures counted { IfNone result (lines_handed reader.old < lines_handed reader.new) }
     ensures lines { lines_handed reader.new ≤ SESSION_LINES }
-    ensures flushed { StaysFlushed result (W.flushed output.old) (W.flushed output.new)
-        (W.written output.old) (W.written output.new) }
-    ensures cause { Blames result (S.faults input.old) (S.faults input.new)
-        (W.faults output.old) (W.faults output.new) }
-    ensures input_telling { StaysTold (S.left input.old) (S.left input.new) }
-    ensures output_telling { StaysTold (W.written output.old) (W.written output.new) }
-    ensures flushed_telling { StaysTold (W.flushed output.old) (W.flushed output.new) }
+    ensures input { PassesSource (result ≡ Some Ended.ReadFault) (result ≡ Some Ended.ReadFault) (S.left input.old)
+        (S.left input.new) (S.faults input.old) (S.faults input.new) }
+    ensures output { PassesSink (result ≡ Some Ended.WriteFault) (result ≡ Some Ended.WriteFault) (W.written output.old)
+        (W.written output.new) (W.flushed output.old) (W.flushed output.new) (W.faults output.old) (W.faults output.new) }
 {
     lines_add_up();
     match reader.next_line(input) {

@@ -1,6 +1,5 @@
+mod Devices
 mod OneReply
 mod OneStatus
 mod OneTableStatus
 mod Over
-mod Through
-mod WithoutDesk

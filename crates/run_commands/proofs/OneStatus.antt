@@ -175,7 +175,7 @@ import_is_not_bad files o name text after (inr says) = works_are_not_bad o after
     works_are_not_bad o after bytes text (inl refused) = refused_is_not_bad refused.status_is
     works_are_not_bad o after bytes text (inr done) = when_is_not_bad (list_any is_refusal done.replies) (sym done.status_is)
 
-not_bad : (files : Option (List File)) (kept : Kept) (command : TableCommand) (o : Opening) (text : List ℕ) → TableSays files kept command o BadStore text → ⊥
+pub not_bad : (files : Option (List File)) (kept : Kept) (command : TableCommand) (o : Opening) (text : List ℕ) → TableSays files kept command o BadStore text → ⊥
 not_bad files kept (table.edit line) o text does = reply_is_not_bad does.says.says.reply (sym does.says.says.status_is)
 not_bad files kept table.status o text says = fine_is_not_bad says.status_is
 not_bad files kept table.list o text says = fine_is_not_bad says.status_is

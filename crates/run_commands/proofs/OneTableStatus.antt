@@ -1,11 +1,14 @@
 -- What a command on the rules says has one status, where no edit failed.
-use Rattle.std.proofs.Common.{◌≡◌, ◌≢◌, ◌≤◌, ℕ, ◌⊎◌, List, [], None, Some, inl, inr, refl, sym, ap, ◌∙◌, subst}
+use Rattle.std.proofs.Common.{◌≡◌, ◌≢◌, ◌≤◌, ℕ, ◌⊎◌, List, [], Option, None, Some, inl, inr, refl, sym, ap, ◌∙◌, subst}
+use Rattle.std.specs.Prelude.{IsSome}
 use Rattle.std.specs.List.{list_any}
 use Rattle.gk_io.specs.Shelf.{File, file_named}
 use Rattle.policy_model.specs.Contents.{Edit}
 use Rattle.policy_model.specs.History.{Event, Opening}
 use Rattle.store_model.specs.Raw.{RawTables}
+use Rattle.policy_keeper.specs.Told.{Told}
 use Rattle.desk_state.specs.Failures.{failures, Kept}
+use Rattle.desk_opening.specs.Opens.{IsOpening}
 use Rattle.run_status.specs.declared.status.Status.{Status}
 use Rattle.run_status.specs.declared.status.Status.TheVariants.{Fine, Denied, Usage, ReadFault, WriteFault, ShelfFault, ClockFault, KeeperFault, FileMissing, FileTooLong, BadFacts, BadStore, Refused, SessionTooLong, OutOfMemory}
 use Rattle.desk_opening.specs.Laws.{OneOpening, OpenedIsNotUnopened, UnopenedHasOneStatus}
@@ -18,7 +21,7 @@ use Rattle.table_commands.specs.Replies.{EditsReply, is_refusal, refused_when}
 use Rattle.table_commands.specs.EditSays.{SaysEdit}
 use Rattle.table_commands.specs.ImportSays.{IsRefused, IsDone, Imports, SaysImport}
 use Rattle.run_commands.specs.Says.{TableSays, TablesSay}
-use Rattle.run_commands.specs.Laws.{IsSteady, TablesHaveOneStatus}
+use Rattle.run_commands.specs.Laws.{IsSteady, TellsImport, TablesHaveOneStatus}
 use Rattle.run_commands.proofs.OneReply.{none_failed, one_line, one_list}
 use Rattle.run_commands.proofs.OneStatus.{nothing_told, same_bytes, without, there, one_without}
 
@@ -91,7 +94,38 @@ module _ (line_one : LineAsksForOneEdit) (line_apart : EditHasNoFault) (import_o
     one_over first second said again p q (inr a) (inr b) =
         one_said command b.0 first second said again p q (subst (λ (o : Opening). TableSays (Some files) kept command o first said) (one files None raw a.0 b.0 a.1 b.1) a.2) b.2
 
-pub tables_have_one_status : OneOpening → OpenedIsNotUnopened → UnopenedHasOneStatus → LineAsksForOneEdit → EditHasNoFault → ImportIsOne → ImportHasNoFault → TablesHaveOneStatus
-tables_have_one_status one apart unopened line_one line_apart import_one import_apart files None kept others command first second said again told steady still p q a b = absurd (nothing_told told)
-tables_have_one_status one apart unopened line_one line_apart import_one import_apart files (Some raw) kept others command first second said again told steady still p q a b =
+tables_told : OneOpening → OpenedIsNotUnopened → UnopenedHasOneStatus → LineAsksForOneEdit → EditHasNoFault → ImportIsOne → ImportHasNoFault → (files : List File) (rows : Told) (kept others : Kept) (command : TableCommand) (first second : Status) (said again : List ℕ)
+    → IsSome rows → IsSteady kept → IsSteady others → first ≢ OutOfMemory → second ≢ OutOfMemory → TablesSay (Some files) rows kept command first said → TablesSay (Some files) rows others command second again → first ≡ second
+tables_told one apart unopened line_one line_apart import_one import_apart files None kept others command first second said again told steady still p q a b = absurd (nothing_told told)
+tables_told one apart unopened line_one line_apart import_one import_apart files (Some raw) kept others command first second said again told steady still p q a b =
     one_over line_one line_apart import_one import_apart files kept others steady still one apart unopened raw command first second said again p q a b
+
+-- without a facts file a run begins at the same place whatever files there are
+without_files : (files other : Option (List File)) (rows : Told) (o : Opening) → IsOpening files None rows o → IsOpening other None rows o
+without_files files other rows o opening = record {
+  facts = opening.facts;
+  facts_are = opening.facts_are;
+  tables = opening.tables;
+  stored = opening.stored;
+  opening_is = opening.opening_is;
+}
+
+nothing_shelved : IsSome {T = List File} None → ⊥
+nothing_shelved h = (cc)
+
+-- and so a command on the rules that is no import says the same
+tables_without : (other : Option (List File)) (rows : Told) (kept : Kept) (command : TableCommand) (status : Status) (text : List ℕ) → TellsImport None command → TablesSay None rows kept command status text → TablesSay other rows kept command status text
+tables_without other rows kept (table.edit line) status text tells (inl h) = inl h
+tables_without other rows kept (table.edit line) status text tells (inr h) = inr (h.0, without_files None other rows h.0 h.1, h.2)
+tables_without other rows kept table.status status text tells (inl h) = inl h
+tables_without other rows kept table.status status text tells (inr h) = inr (h.0, without_files None other rows h.0 h.1, h.2)
+tables_without other rows kept table.list status text tells (inl h) = inl h
+tables_without other rows kept table.list status text tells (inr h) = inr (h.0, without_files None other rows h.0 h.1, h.2)
+tables_without other rows kept (table.import_file name) status text tells h = absurd (nothing_shelved tells)
+
+pub tables_have_one_status : OneOpening → OpenedIsNotUnopened → UnopenedHasOneStatus → LineAsksForOneEdit → EditHasNoFault → ImportIsOne → ImportHasNoFault → TablesHaveOneStatus
+tables_have_one_status one apart unopened line_one line_apart import_one import_apart (Some files) rows kept others command first second said again tells told steady still p q a b =
+    tables_told one apart unopened line_one line_apart import_one import_apart files rows kept others command first second said again told steady still p q a b
+tables_have_one_status one apart unopened line_one line_apart import_one import_apart None rows kept others command first second said again tells told steady still p q a b =
+    tables_told one apart unopened line_one line_apart import_one import_apart [] rows kept others command first second said again told steady still p q
+    (tables_without (Some []) rows kept command first said tells a) (tables_without (Some []) rows others command second again tells b)

@@ -6,10 +6,8 @@ use Rattle.policy_keeper.specs.Told.{Told}
 use Rattle.desk_state.specs.Failures.{Kept}
 use Rattle.run_status.specs.declared.status.Status.{Status}
 use Rattle.run_status.specs.declared.status.Status.TheVariants.{FileMissing, FileTooLong, BadFacts, BadStore, Refused, OutOfMemory}
-use Rattle.command_words.specs.Table.{FileCommand, compile, compile_set, dump, assess, TableCommand}
-use Rattle.policy_model.specs.History.{Opening}
-use Rattle.desk_opening.specs.Opens.{TellsTheSame, IsOpening, SaysUnopened}
-use Rattle.run_commands.specs.Says.{FilesSay, TablesSay, told_through}
+use Rattle.command_words.specs.Table.{FileCommand, compile, compile_set, dump, assess, TableCommand, edit, status, list, import_file}
+use Rattle.run_commands.specs.Says.{FilesSay, TablesSay}
 
 -- the keeper tells its rows to a command on files that asks for them
 abbrev pub TellsRows : Told → FileCommand → Type 0
@@ -46,18 +44,15 @@ BadStoreIsOne = (files : List File) (rows : Told) (kept : Kept) (command : Table
 abbrev pub IsSteady : Kept → Type 0
 IsSteady kept = Rose kept.before kept.counted → ⊥
 
--- over files and rows that are told, and a keeper whose count could rise and didn't, a command on the rules says something with one status,
--- unless memory ran out
+-- the shelf tells its files to an import
+abbrev pub TellsImport : Option (List File) → TableCommand → Type 0
+TellsImport files (edit line) = ⊤
+TellsImport files status = ⊤
+TellsImport files list = ⊤
+TellsImport files (import_file name) = IsSome files
+
+-- over rows that are told, files that are told to an import, and a keeper whose count could rise and didn't, a command on the rules says
+-- something with one status, unless memory ran out
 abbrev pub TablesHaveOneStatus : Type 0
-TablesHaveOneStatus = (files : List File) (rows : Told) (kept others : Kept) (command : TableCommand) (first second : Status) (said other : List ℕ) → IsSome rows → IsSteady kept → IsSteady others → first ≢ OutOfMemory → second ≢ OutOfMemory
-    → TablesSay (Some files) rows kept command first said → TablesSay (Some files) rows others command second other → first ≡ second
-
--- where a run begins by what the keeper told when its desk was opened, it begins by what the keeper told throughout
-abbrev pub OpeningThrough : Type 0
-OpeningThrough = (files : Option (List File)) (name : Option (List ℕ)) (before mid after : Told) (o : Opening)
-    → TellsTheSame before mid → (IsSome after → IsSome mid) → IsOpening files name mid o → IsOpening files name (told_through before after) o
-
--- and so it is with what is said where it doesn't begin
-abbrev pub UnopenedThrough : Type 0
-UnopenedThrough = (files : Option (List File)) (name : Option (List ℕ)) (before after : Told) (status : Status) (text : List ℕ)
-    → TellsTheSame before after → SaysUnopened files name after status text → SaysUnopened files name (told_through before after) status text
+TablesHaveOneStatus = (files : Option (List File)) (rows : Told) (kept others : Kept) (command : TableCommand) (first second : Status) (said other : List ℕ) → TellsImport files command → IsSome rows → IsSteady kept → IsSteady others → first ≢ OutOfMemory → second ≢ OutOfMemory
+    → TablesSay files rows kept command first said → TablesSay files rows others command second other → first ≡ second

@@ -1,5 +1,5 @@
 -- What each command but a session says. This project's own.
-use Rattle.std.specs.Prelude.{◌≡◌, ℕ, ◌⊎◌, List, [], Option, None, Some}
+use Rattle.std.specs.Prelude.{◌≡◌, ℕ, ◌⊎◌, List, [], Option, None}
 use Rattle.gk_io.specs.Shelf.{File}
 use Rattle.policy_model.specs.Tables.{Tables}
 use Rattle.policy_model.specs.History.{Event, Opening, tables_of}
@@ -20,11 +20,6 @@ use Rattle.table_commands.specs.TableSays.{SaysStatus, SaysList}
 use Rattle.desk_opening.specs.Opens.{IsOpening, SaysUnopened}
 use Rattle.command_words.specs.Table as table
 use Rattle.command_words.specs.Table.{FileCommand, compile, compile_set, dump, assess, TableCommand}
-
--- the rows that the keeper told as the run began, where it tells them as it ends too
-abbrev pub told_through : Told → Told → Told
-told_through before None = None
-told_through before (Some after) = before
 
 -- what is said over a desk: what is said where there is none, or what one says that begins so
 abbrev pub DeskSays : Option (List File) → Option (List ℕ) → Told → (Opening → Status → List ℕ → Type 0) → Status → List ℕ → Type 0

@@ -1,6 +1,6 @@
 //! What keeps a run from saying what its command says.
 
-ghost use Rattle.run_commands.specs.Halts.{IsUnsaid};
+ghost use Rattle.run_commands.specs.Halts.{IsUnsaid, IsHalted, IsStarved};
 
 use desk_opening::Unopened;
 use run_status::{Said, Stop};
@@ -46,5 +46,25 @@ pub fn unopened(why: Unopened) -> Result<Said, Halt>
         Unopened::Said(said) => Ok(said),
         Unopened::Stop(stop) => Err(Halt::Stop(stop)),
         Unopened::KeeperFault => Err(Halt::KeeperFault),
+    }
+}
+
+/// What a command says, or why it stopped.
+pub(crate) fn halted(said: Result<Said, Stop>) -> Result<Said, Halt>
+    ensures { IsHalted said result }
+{
+    match said {
+        Ok(said) => Ok(said),
+        Err(stop) => Err(Halt::Stop(stop)),
+    }
+}
+
+/// What a command says, or that there was no memory for it.
+pub(crate) fn starved(said: Result<Said, AllocError>) -> Result<Said, Halt>
+    ensures { IsStarved said result }
+{
+    match said {
+        Ok(said) => Ok(said),
+        Err(AllocError) => Err(Halt::Stop(Stop::OutOfMemory)),
     }
 }

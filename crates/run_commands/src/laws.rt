@@ -1,6 +1,6 @@
 //! Laws over the definitions: functions that do nothing and whose contracts are the laws.
 
-ghost use Rattle.run_commands.specs.Laws.{FilesHaveOneStatus, TimelessStatusIsOne, TablesHaveOneStatus, BadStoreIsOne, OpeningThrough, UnopenedThrough};
+ghost use Rattle.run_commands.specs.Laws.{FilesHaveOneStatus, TimelessStatusIsOne, TablesHaveOneStatus, BadStoreIsOne};
 
 use desk_opening::laws::a_run_begins_or_not;
 use file_assessment::laws::an_assessment_has_one_status;
@@ -28,9 +28,3 @@ pub fn each_table_command_has_one_status()
     what_is_asked_has_no_fault();
     an_import_asks_for_one_list();
 }
-
-/// What holds by what the keeper told when a desk was opened holds by what it told throughout.
-pub fn what_is_told_throughout()
-    ensures opening { OpeningThrough }
-    ensures unopened { UnopenedThrough }
-{}

@@ -1,18 +1,19 @@
 //! The commands on files.
 
-ghost use Rattle.std.specs.Prelude.{◌≡◌, ◌≢◌, ◌≤◌, [], Err, IfOk, is_some};
-ghost use Rattle.gk_io.specs.Faults.{Rose};
-ghost use Rattle.gk_io.specs.Shelf.{KeepsFiles};
+ghost use Rattle.std.specs.Prelude.{◌≡◌, ◌≢◌, [], Err, IfOk};
+ghost use Rattle.gk_io.specs.Devices.{PassesClock, PassesShelf};
 ghost use Rattle.rule_values.specs.Kind.{kind_of};
 ghost use Rattle.policy_model.specs.History.{Opening};
 ghost use Rattle.desk_state.specs.Stands.{Stands};
 ghost use Rattle.run_status.specs.Said.{IsSpoken};
-ghost use Rattle.file_assessment.specs.Assessing.{SaysAssess};
+ghost use Rattle.file_assessment.specs.Assessing.{HasFiles, SaysAssess};
+ghost use Rattle.desk_opening.specs.Opens.{PassesLoad};
+ghost use Rattle.command_words.specs.Table as model;
 ghost use Rattle.command_words.specs.Views.{file_view, text_of};
 ghost use Rattle.run_commands.specs.declared.halt.Halt.TheVariants as halt;
-ghost use Rattle.run_commands.specs.Says.{DeskSays, FilesSay, told_through};
+ghost use Rattle.run_commands.specs.Answers.{FilesAnswer, LeavesAlone};
 
-use crate::halt::{Halt, unopened};
+use crate::halt::{Halt, halted, unopened};
 use command_words::FileCommand;
 use desk_opening::laws::a_run_begins_or_not;
 use desk_opening::open_desk;
@@ -34,31 +35,24 @@ pub fn said_of_files<H: Shelf, K: Keeper, C: Clock>(
     keeper: &mut K,
     clock: &mut C,
 ) -> Result<Said, Halt>
-    ensures says { IfOk result (λ said. FilesSay (H.files shelf.old) (C.moments clock.old) (told_through (K.told keeper.old) (K.told keeper.new)) (text_of facts.entry) (file_view command.entry) said.status said.text) }
+    ensures answers { FilesAnswer (H.files shelf.old) (C.moments clock.old) (K.told keeper.new) (text_of facts.entry) (file_view command.entry) result }
     ensures spoken { IfOk result (λ said. IsSpoken said.status) }
-    ensures kept { KeepsFiles (H.files shelf.old) (H.files shelf.new) }
-    ensures later { H.faults shelf.old ≤ H.faults shelf.new }
-    ensures cause { result ≡ Err (halt.Stop Stop.ShelfFault) → Rose (H.faults shelf.old) (H.faults shelf.new) }
-    ensures steady { result ≢ Err (halt.Stop Stop.ShelfFault) → H.faults shelf.new ≡ H.faults shelf.old }
-    ensures keeper_later { K.faults keeper.old ≤ K.faults keeper.new }
-    ensures keeper_cause { result ≡ Err halt.KeeperFault → Rose (K.faults keeper.old) (K.faults keeper.new) }
-    ensures keeper_steady { result ≢ Err halt.KeeperFault → K.faults keeper.new ≡ K.faults keeper.old }
-    ensures clock_telling { is_some (C.moments clock.new) ≡ is_some (C.moments clock.old) }
-    ensures clock_later { C.faults clock.old ≤ C.faults clock.new }
-    ensures clock_cause { result ≡ Err (halt.Stop Stop.ClockFault) → Rose (C.faults clock.old) (C.faults clock.new) }
-    ensures clock_steady { result ≢ Err (halt.Stop Stop.ClockFault) → C.faults clock.new ≡ C.faults clock.old }
+    ensures leaves { LeavesAlone (file_view command.entry) (K.told keeper.old) (K.told keeper.new) (C.moments clock.old) (C.moments clock.new) }
+    ensures shelf { PassesShelf (result ≡ Err (halt.Stop Stop.ShelfFault)) (result ≡ Err (halt.Stop Stop.ShelfFault)) (H.files shelf.old) (H.files shelf.new) (H.faults shelf.old) (H.faults shelf.new) }
+    ensures keeper { PassesLoad (result ≡ Err halt.KeeperFault) (result ≡ Err halt.KeeperFault) (K.told keeper.old) (K.told keeper.new) (K.faults keeper.old) (K.faults keeper.new) }
+    ensures clock { PassesClock (result ≡ Err (halt.Stop Stop.ClockFault)) (result ≡ Err (halt.Stop Stop.ClockFault)) (C.moments clock.old) (C.moments clock.new) (C.faults clock.old) (C.faults clock.new) }
 {
     match command {
-        FileCommand::Compile { name } => Ok(compile(alloc, name, shelf)?),
-        FileCommand::CompileSet { name } => Ok(compile_set(alloc, name, shelf)?),
-        FileCommand::Dump { name } => Ok(dump_file(alloc, name, shelf)?),
+        FileCommand::Compile { name } => halted(compile(alloc, name, shelf)),
+        FileCommand::CompileSet { name } => halted(compile_set(alloc, name, shelf)),
+        FileCommand::Dump { name } => halted(dump_file(alloc, name, shelf)),
         FileCommand::Assess { kind, name, code } => {
             assess_opened(alloc, facts, kind, name, code, shelf, keeper, clock)
         }
     }
 }
 
-/// What an assessment says by a desk that is opened for it.
+/// What comes of an assessment by a desk that is opened for it.
 fn assess_opened<H: Shelf, K: Keeper, C: Clock>(
     alloc: Global,
     facts: Option<&str>,
@@ -69,20 +63,11 @@ fn assess_opened<H: Shelf, K: Keeper, C: Clock>(
     keeper: &mut K,
     clock: &mut C,
 ) -> Result<Said, Halt>
-    ensures says { IfOk result (λ said. DeskSays (H.files shelf.old) (text_of facts.entry) (told_through (K.told keeper.old) (K.told keeper.new))
-        (λ o. SaysAssess o [] (H.files shelf.old) (C.moments clock.old) (kind_of kind) name.now (text_of code.entry)) said.status said.text) }
+    ensures answers { FilesAnswer (H.files shelf.old) (C.moments clock.old) (K.told keeper.new) (text_of facts.entry) (model.assess (kind_of kind) name.now (text_of code.entry)) result }
     ensures spoken { IfOk result (λ said. IsSpoken said.status) }
-    ensures kept { KeepsFiles (H.files shelf.old) (H.files shelf.new) }
-    ensures later { H.faults shelf.old ≤ H.faults shelf.new }
-    ensures cause { result ≡ Err (halt.Stop Stop.ShelfFault) → Rose (H.faults shelf.old) (H.faults shelf.new) }
-    ensures steady { result ≢ Err (halt.Stop Stop.ShelfFault) → H.faults shelf.new ≡ H.faults shelf.old }
-    ensures keeper_later { K.faults keeper.old ≤ K.faults keeper.new }
-    ensures keeper_cause { result ≡ Err halt.KeeperFault → Rose (K.faults keeper.old) (K.faults keeper.new) }
-    ensures keeper_steady { result ≢ Err halt.KeeperFault → K.faults keeper.new ≡ K.faults keeper.old }
-    ensures clock_telling { is_some (C.moments clock.new) ≡ is_some (C.moments clock.old) }
-    ensures clock_later { C.faults clock.old ≤ C.faults clock.new }
-    ensures clock_cause { result ≡ Err (halt.Stop Stop.ClockFault) → Rose (C.faults clock.old) (C.faults clock.new) }
-    ensures clock_steady { result ≢ Err (halt.Stop Stop.ClockFault) → C.faults clock.new ≡ C.faults clock.old }
+    ensures shelf { PassesShelf (result ≡ Err (halt.Stop Stop.ShelfFault)) (result ≡ Err (halt.Stop Stop.ShelfFault)) (H.files shelf.old) (H.files shelf.new) (H.faults shelf.old) (H.faults shelf.new) }
+    ensures keeper { PassesLoad (result ≡ Err halt.KeeperFault) (result ≡ Err halt.KeeperFault) (K.told keeper.old) (K.told keeper.new) (K.faults keeper.old) (K.faults keeper.new) }
+    ensures clock { PassesClock (result ≡ Err (halt.Stop Stop.ClockFault)) (result ≡ Err (halt.Stop Stop.ClockFault)) (C.moments clock.old) (C.moments clock.new) (C.faults clock.old) (C.faults clock.new) }
 {
     a_run_begins_or_not();
     match open_desk(alloc, facts, shelf, keeper) {
@@ -102,17 +87,12 @@ fn assess_over<H: Shelf, C: Clock>(
 ) -> Result<Said, Halt>
     ensures says { (o : Opening) → Stands desk o [] → IfOk result (λ said. SaysAssess o [] (H.files shelf.old) (C.moments clock.old) (kind_of kind) name.now (text_of code.entry) said.status said.text) }
     ensures spoken { IfOk result (λ said. IsSpoken said.status) }
-    ensures kept { KeepsFiles (H.files shelf.old) (H.files shelf.new) }
-    ensures later { H.faults shelf.old ≤ H.faults shelf.new }
-    ensures cause { result ≡ Err (halt.Stop Stop.ShelfFault) → Rose (H.faults shelf.old) (H.faults shelf.new) }
-    ensures steady { result ≢ Err (halt.Stop Stop.ShelfFault) → H.faults shelf.new ≡ H.faults shelf.old }
+    ensures reached { result ≡ Err (halt.Stop Stop.ClockFault) → HasFiles (H.files shelf.old) name.now (text_of code.entry) }
     ensures no_keeper { result ≢ Err halt.KeeperFault }
-    ensures clock_telling { is_some (C.moments clock.new) ≡ is_some (C.moments clock.old) }
-    ensures clock_later { C.faults clock.old ≤ C.faults clock.new }
-    ensures clock_cause { result ≡ Err (halt.Stop Stop.ClockFault) → Rose (C.faults clock.old) (C.faults clock.new) }
-    ensures clock_steady { result ≢ Err (halt.Stop Stop.ClockFault) → C.faults clock.new ≡ C.faults clock.old }
+    ensures shelf { PassesShelf (result ≡ Err (halt.Stop Stop.ShelfFault)) (result ≡ Err (halt.Stop Stop.ShelfFault)) (H.files shelf.old) (H.files shelf.new) (H.faults shelf.old) (H.faults shelf.new) }
+    ensures clock { PassesClock (result ≡ Err (halt.Stop Stop.ClockFault)) (result ≡ Err (halt.Stop Stop.ClockFault)) (C.moments clock.old) (C.moments clock.new) (C.faults clock.old) (C.faults clock.new) }
 {
     let said = assess(alloc, &mut desk, kind, name, code, shelf, clock);
     drop(desk);
-    Ok(said?)
+    halted(said)
 }

@@ -1,8 +1,7 @@
 //! The files that a command asks for.
 
-ghost use Rattle.std.specs.Prelude.{◌≡◌, ◌≢◌, ◌≤◌, Err, IfOk};
-ghost use Rattle.gk_io.specs.Faults.{Rose};
-ghost use Rattle.gk_io.specs.Shelf.{KeepsFiles};
+ghost use Rattle.std.specs.Prelude.{◌≡◌, ◌≢◌, Err, IfOk};
+ghost use Rattle.gk_io.specs.Devices.{PassesShelf};
 ghost use Rattle.run_status.specs.FileTexts.{file_missing_text, file_too_long_text};
 ghost use Rattle.run_status.specs.Files.{IsAsked};
 ghost use Rattle.line_reader.specs.Lines.{with_lf};
@@ -28,10 +27,7 @@ pub fn fetch_file<H: Shelf>(
     limit: usize,
 ) -> Result<Asked, Stop>
     ensures asked { IfOk result (λ asked. IsAsked (H.files shelf.old) name.now limit asked) }
-    ensures kept { KeepsFiles (H.files shelf.old) (H.files shelf.new) }
-    ensures later { H.faults shelf.old ≤ H.faults shelf.new }
-    ensures cause { result ≡ Err Stop.ShelfFault → Rose (H.faults shelf.old) (H.faults shelf.new) }
-    ensures steady { result ≢ Err Stop.ShelfFault → H.faults shelf.new ≡ H.faults shelf.old }
+    ensures shelf { PassesShelf (result ≡ Err Stop.ShelfFault) (result ≡ Err Stop.ShelfFault) (H.files shelf.old) (H.files shelf.new) (H.faults shelf.old) (H.faults shelf.new) }
     ensures unasked { result ≢ Err Stop.ClockFault }
 {
     let mut bytes = Vec::new(alloc);

@@ -29,10 +29,18 @@ const COMPILED: [(&str, &[u8], &[u8]); 6] = [
 
 // A command, the text of its file, and the line that refuses it.
 #[rattlefmt::skip]
-const REFUSED: [(&str, &[u8], &[u8]); 9] = [
+const REFUSED: [(&str, &[u8], &[u8]); 17] = [
     ("compile", b"identifier and", b"refused text 6 Syntax token=1\n"),
     ("compile", b"always or", b"refused text 6 Syntax token=2\n"),
     ("compile", b"", b"refused text 6 Syntax token=0\n"),
+    ("compile", b"anchor apple trusted", b"refused text 6 Syntax token=2\n"),
+    ("compile", b"certificate leaf", b"refused text 6 Syntax token=2\n"),
+    ("compile", b"! ( always", b"refused text 6 Syntax token=3\n"),
+    ("compile", b"info[Version] <", b"refused text 6 Syntax token=5\n"),
+    ("compile", b"always )", b"refused text 6 Syntax token=1\n"),
+    ("compile", b"(a and b)", b"refused text 6 Syntax token=2\n"),
+    ("compile", b"platform = 2147483648", b"refused text 6 Syntax token=2\n"),
+    ("compile", b"com.example", b"refused text 6 Syntax token=0\n"),
     ("compile", b"cdhash H\"12\"", b"refused text 4 BadHex at=7\n"),
     ("compile", b"\"abc", b"refused text 2 OpenString at=0\n"),
     ("compile", b"certificate leaf[field.1]", b"refused text 9 BadKey token=3\n"),

@@ -18,6 +18,8 @@ mod kept_outcomes;
 #[cfg(test)]
 mod limits;
 #[cfg(test)]
+mod long_files;
+#[cfg(test)]
 mod misfits;
 #[cfg(test)]
 mod overlaps;

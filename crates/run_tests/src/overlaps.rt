@@ -1,6 +1,7 @@
 //! Sessions of assessments that overlap with edits. The replies were worked out apart from the program.
 
 use crate::transcripts::is_answered_so;
+use std::alloc::{AllocError, Global};
 use std::test::Fail;
 
 // A higher rule comes between: the outcome is answered and not kept.
@@ -20,7 +21,7 @@ rejected at=0 rule=2 latent=none label=- override=none source=cache cache=none
 > status
 status assessments=enabled rules=2 receipts=2 objects=1 now=0";
 
-// A lower rule comes between: with no late edits looked through, the outcome is not kept either.
+// A lower rule comes between: the outcome is kept, as the rule that decided is tried before it.
 #[rattlefmt::skip]
 const LOWER: &[u8] = b"> add lo execute allow 9 never - - always
 ok edit=1 rules=1
@@ -29,9 +30,9 @@ begun 1 at=0
 > add hi execute deny 1 never - - always
 ok edit=2 rules=1
 > finish 1
-accepted at=0 rule=1 latent=none label=- override=none source=rules cache=moved
-> assess execute 1111111111111111111111111111111111111111 com.example.app 0
 accepted at=0 rule=1 latent=none label=- override=none source=rules cache=kept
+> assess execute 1111111111111111111111111111111111111111 com.example.app 0
+accepted at=0 rule=1 latent=none label=- override=none source=cache cache=none
 > assess execute 1111111111111111111111111111111111111111 com.example.app 0
 accepted at=0 rule=1 latent=none label=- override=none source=cache cache=none
 > add z execute deny 0 never - - always
@@ -157,6 +158,48 @@ ok edit=3 rules=0
 rejected at=0 rule=2 latent=none label=- override=none source=cache cache=none
 > assess execute 1111111111111111111111111111111111111111 com.example.app 0
 accepted at=0 rule=2 latent=none label=- override=security%20disabled source=cache cache=none";
+
+// What is answered when so many lower rules have come between.
+#[rattlefmt::skip]
+const MANY_LOWER: [(u32, &[u8]); 2] = [
+    (64, b"> finish 1
+accepted at=0 rule=1 latent=none label=- override=none source=rules cache=kept
+> assess execute 1111111111111111111111111111111111111111 com.example.app 0
+accepted at=0 rule=1 latent=none label=- override=none source=cache cache=none"),
+    (65, b"> finish 1
+accepted at=0 rule=1 latent=none label=- override=none source=rules cache=moved
+> assess execute 1111111111111111111111111111111111111111 com.example.app 0
+accepted at=0 rule=1 latent=none label=- override=none source=rules cache=kept"),
+];
+
+// A rule that decides what is begun, so many rules behind it, and these rows.
+fn with_lower_rules(alloc: Global, lower: u32, rows: &[u8]) -> Result<Vec<u8>, AllocError> {
+    let mut transcript = Vec::new(alloc);
+    transcript.extend_from_slice(
+        b"> add lo execute allow 9 never - - always\nok edit=1 rules=1\n",
+    )?;
+    transcript.extend_from_slice(
+        b"> begin 1 execute 1111111111111111111111111111111111111111 com.example.app 0\nbegun 1 at=0\n",
+    )?;
+    for edit in 2..lower + 2 {
+        let pair = format!(in alloc;
+            "> add k{edit} execute deny 1 never - - always\nok edit={edit} rules=1\n"
+        )?;
+        transcript.extend_from_slice(pair.as_bytes())?;
+    }
+    transcript.extend_from_slice(rows)?;
+    Ok(transcript)
+}
+
+#[test]
+fn sixty_four_lower_rules_are_forgiven_and_no_more(rt: HostRuntime) -> Result<(), Fail> {
+    for (lower, rows) in MANY_LOWER {
+        let transcript = with_lower_rules(rt.alloc(), lower, rows)?;
+        let is = is_answered_so(rt.alloc(), &transcript)?;
+        assert!(rt; is);
+    }
+    Ok(())
+}
 
 #[test]
 fn assessments_that_overlap_are_answered(rt: HostRuntime) -> Result<(), Fail> {

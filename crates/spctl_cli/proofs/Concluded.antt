@@ -1,126 +1,131 @@
--- From what a command says to how its run ends.
-use Rattle.std.proofs.Common.{◌≡◌, ℕ, List, Option, Result, Ok, Err, IfOk, inl, inr, refl, sym, subst}
-use Rattle.std.specs.Io.KnownBytes.{Appends}
-use Rattle.line_reader.specs.Lines.{with_lf}
+-- From what a command came to, to how its run ends.
+use Rattle.std.proofs.Common.{◌≡◌, ◌≢◌, ◌⊎◌, ℕ, List, Option, Result, Ok, Err, IfOk, inl, inr, refl, sym, ◌∙◌, subst}
+use Rattle.gk_io.specs.Shelf.{File}
+use Rattle.gk_io.specs.Devices.{Counts, PassesShelf, PassesClock}
 use Rattle.run_status.specs.declared.said.Said.{Said}
 use Rattle.run_status.specs.declared.stop.Stop.TheVariants as stop
 use Rattle.run_status.specs.declared.status.Status.{Status}
-use Rattle.run_status.specs.declared.status.Status.TheVariants.{Fine, Denied, Usage, ReadFault, WriteFault, ShelfFault, ClockFault, KeeperFault, FileMissing, FileTooLong, BadFacts, BadStore, Refused, SessionTooLong, OutOfMemory}
+use Rattle.run_status.specs.declared.status.Status.TheVariants.{WriteFault, ShelfFault, ClockFault, KeeperFault, OutOfMemory}
 use Rattle.run_status.specs.Said.{IsSpoken}
 use Rattle.run_commands.specs.declared.halt.Halt.{Halt}
 use Rattle.run_commands.specs.declared.halt.Halt.TheVariants as halt
 use Rattle.run_commands.specs.Spoken.{IsUttered}
-use Rattle.spctl_cli.specs.LastLines.{shelf_fault_text, clock_fault_text, keeper_fault_text, IsEndedBy}
-use Rattle.spctl_cli.specs.Conclusions.{Tells, Concludes, IsConcluded}
-use Rattle.spctl_cli.specs.Ends.{IsSpokenEnd}
+use Rattle.spctl_cli.specs.Conclusions.{IsConcluded}
+use Rattle.spctl_cli.specs.Statuses.{MayHide}
 
-module _ (Says : Status → List ℕ → Type 0) where
-  uttered_tells : (status : Status) (text : List ℕ) → IsUttered status → Says status text → Tells Says status text
-  uttered_tells Fine text spoken says = says
-  uttered_tells Denied text spoken says = says
-  uttered_tells Usage text spoken says = absurd spoken
-  uttered_tells ReadFault text spoken says = absurd spoken
-  uttered_tells WriteFault text spoken says = absurd spoken
-  uttered_tells ShelfFault text spoken says = absurd spoken
-  uttered_tells ClockFault text spoken says = absurd spoken
-  uttered_tells KeeperFault text spoken says = absurd spoken
-  uttered_tells FileMissing text spoken says = says
-  uttered_tells FileTooLong text spoken says = says
-  uttered_tells BadFacts text spoken says = says
-  uttered_tells BadStore text spoken says = says
-  uttered_tells Refused text spoken says = says
-  uttered_tells SessionTooLong text spoken says = absurd spoken
-  uttered_tells OutOfMemory text spoken says = says
+-- the status with which a command that came to this ends, unless the sink fails
+abbrev pub answer_status : Result Said Halt → Status
+answer_status (Ok said) = said.status
+answer_status (Err (halt.Stop stop.ShelfFault)) = ShelfFault
+answer_status (Err (halt.Stop stop.ClockFault)) = ClockFault
+answer_status (Err (halt.Stop stop.OutOfMemory)) = OutOfMemory
+answer_status (Err halt.KeeperFault) = KeeperFault
 
-  module _ (written sent : Option (List ℕ)) where
-    told : (status : Status) (text : List ℕ) → IsUttered status → Says status text → Appends written sent text → Concludes Says written sent status
-    told Fine text spoken says put = record { text = text; tells = says; put = put }
-    told Denied text spoken says put = record { text = text; tells = says; put = put }
-    told Usage text spoken says put = absurd spoken
-    told ReadFault text spoken says put = absurd spoken
-    told WriteFault text spoken says put = absurd spoken
-    told ShelfFault text spoken says put = absurd spoken
-    told ClockFault text spoken says put = absurd spoken
-    told KeeperFault text spoken says put = absurd spoken
-    told FileMissing text spoken says put = record { text = text; tells = says; put = put }
-    told FileTooLong text spoken says put = record { text = text; tells = says; put = put }
-    told BadFacts text spoken says put = record { text = text; tells = says; put = put }
-    told BadStore text spoken says put = record { text = text; tells = says; put = put }
-    told Refused text spoken says put = record { text = text; tells = says; put = put }
-    told SessionTooLong text spoken says put = absurd spoken
-    told OutOfMemory text spoken says put = inr (record { text = text; tells = says; put = put })
+pub concluded_status : (answer : Result Said Halt) (written sent : Option (List ℕ)) (ended : Status) → IsConcluded answer written sent ended → (ended ≡ answer_status answer) ⊎ (ended ≡ WriteFault)
+concluded_status (Ok said) written sent ended (inl whole) = inl whole.0
+concluded_status (Ok said) written sent ended (inr front) = inr front.0
+concluded_status (Err (halt.Stop stop.ShelfFault)) written sent ended (inl whole) = inl whole.0
+concluded_status (Err (halt.Stop stop.ShelfFault)) written sent ended (inr front) = inr front.0
+concluded_status (Err (halt.Stop stop.ClockFault)) written sent ended (inl whole) = inl whole.0
+concluded_status (Err (halt.Stop stop.ClockFault)) written sent ended (inr front) = inr front.0
+concluded_status (Err (halt.Stop stop.OutOfMemory)) written sent ended is = inl is.0
+concluded_status (Err halt.KeeperFault) written sent ended (inl whole) = inl whole.0
+concluded_status (Err halt.KeeperFault) written sent ended (inr front) = inr front.0
 
-    pub said_ends : (status : Status) (text : List ℕ) (ended : Status) → IsUttered status → Says status text → IsEndedBy status text written sent ended → Concludes Says written sent ended
-    said_ends status text ended spoken says (inl whole) = subst (Concludes Says written sent) (sym whole.0) (told status text spoken says whole.1)
-    said_ends status text ended spoken says (inr front) =
-        subst (Concludes Says written sent) (sym front.0) (record { status = status; text = text; tells = uttered_tells status text spoken says; put = front.1 })
+one_of : (ended status : Status) → ended ≢ WriteFault → (ended ≡ status) ⊎ (ended ≡ WriteFault) → ended ≡ status
+one_of ended status apart (inl is) = is
+one_of ended status apart (inr is) = absurd (apart is)
 
-    shelf_ends : (ended : Status) → IsEndedBy ShelfFault (with_lf shelf_fault_text) written sent ended → Concludes Says written sent ended
-    shelf_ends ended (inl whole) = subst (Concludes Says written sent) (sym whole.0) (record { text = with_lf shelf_fault_text; tells = refl; put = whole.1 })
-    shelf_ends ended (inr front) = subst (Concludes Says written sent) (sym front.0) (record { status = ShelfFault; text = with_lf shelf_fault_text; tells = refl; put = front.1 })
+pub ended_is : (answer : Result Said Halt) (written sent : Option (List ℕ)) (ended : Status) → IsConcluded answer written sent ended → ended ≢ WriteFault → ended ≡ answer_status answer
+ended_is answer written sent ended is apart = one_of ended (answer_status answer) apart (concluded_status answer written sent ended is)
 
-    clock_ends : (ended : Status) → IsEndedBy ClockFault (with_lf clock_fault_text) written sent ended → Concludes Says written sent ended
-    clock_ends ended (inl whole) = subst (Concludes Says written sent) (sym whole.0) (record { text = with_lf clock_fault_text; tells = refl; put = whole.1 })
-    clock_ends ended (inr front) = subst (Concludes Says written sent) (sym front.0) (record { status = ClockFault; text = with_lf clock_fault_text; tells = refl; put = front.1 })
+-- what a run may end with that came to this, it may end with
+either_way : (Own : Status → Type 0) (ended status : Status) → Own status → Own WriteFault → (ended ≡ status) ⊎ (ended ≡ WriteFault) → Own ended
+either_way Own ended status own write (inl is) = subst Own (sym is) own
+either_way Own ended status own write (inr is) = subst Own (sym is) write
 
-    keeper_ends : (ended : Status) → IsEndedBy KeeperFault (with_lf keeper_fault_text) written sent ended → Concludes Says written sent ended
-    keeper_ends ended (inl whole) = subst (Concludes Says written sent) (sym whole.0) (record { text = with_lf keeper_fault_text; tells = refl; put = whole.1 })
-    keeper_ends ended (inr front) = subst (Concludes Says written sent) (sym front.0) (record { status = KeeperFault; text = with_lf keeper_fault_text; tells = refl; put = front.1 })
+pub own_end : (Own : Status → Type 0) (answer : Result Said Halt) (written sent : Option (List ℕ)) (ended : Status) → Own (answer_status answer) → Own WriteFault → IsConcluded answer written sent ended → Own ended
+own_end Own answer written sent ended own write is = either_way Own ended (answer_status answer) own write (concluded_status answer written sent ended is)
 
-    -- a run ends by what its command returned
-    pub concluded : (returned : Result Said Halt) (ended : Status) → IfOk returned (λ said. IsUttered said.status) → IfOk returned (λ said. Says said.status said.text)
-        → IsConcluded returned written sent ended → Concludes Says written sent ended
-    concluded (Ok said) ended spoken says e = said_ends said.status said.text ended spoken says e
-    concluded (Err (halt.Stop stop.ShelfFault)) ended spoken says e = shelf_ends ended e
-    concluded (Err (halt.Stop stop.ClockFault)) ended spoken says e = clock_ends ended e
-    concluded (Err (halt.Stop stop.OutOfMemory)) ended spoken says e = subst (Concludes Says written sent) (sym e.0) (inl e.1)
-    concluded (Err halt.KeeperFault) ended spoken says e = keeper_ends ended e
+-- a device's fault is told only where it was returned
 
-pub uttered_end : (status : Status) → IsUttered status → IsSpokenEnd status
-uttered_end Fine spoken = tt
-uttered_end Denied spoken = tt
-uttered_end Usage spoken = absurd spoken
-uttered_end ReadFault spoken = absurd spoken
-uttered_end WriteFault spoken = absurd spoken
-uttered_end ShelfFault spoken = absurd spoken
-uttered_end ClockFault spoken = absurd spoken
-uttered_end KeeperFault spoken = absurd spoken
-uttered_end FileMissing spoken = tt
-uttered_end FileTooLong spoken = tt
-uttered_end BadFacts spoken = tt
-uttered_end BadStore spoken = tt
-uttered_end Refused spoken = tt
-uttered_end SessionTooLong spoken = absurd spoken
-uttered_end OutOfMemory spoken = tt
+pub shelf_said : (answer : Result Said Halt) → IfOk answer (λ said. IsUttered said.status) → answer_status answer ≡ ShelfFault → answer ≡ Err (halt.Stop stop.ShelfFault)
+shelf_said (Ok said) uttered is = absurd (subst IsUttered is uttered)
+shelf_said (Err (halt.Stop stop.ShelfFault)) uttered is = refl
+shelf_said (Err (halt.Stop stop.ClockFault)) uttered is = absurd (cc)
+shelf_said (Err (halt.Stop stop.OutOfMemory)) uttered is = absurd (cc)
+shelf_said (Err halt.KeeperFault) uttered is = absurd (cc)
 
-pub ended_end : (status : Status) (text : List ℕ) (written sent : Option (List ℕ)) (ended : Status) → IsSpokenEnd status → IsEndedBy status text written sent ended → IsSpokenEnd ended
-ended_end status text written sent ended end (inl whole) = subst IsSpokenEnd (sym whole.0) end
-ended_end status text written sent ended end (inr front) = subst IsSpokenEnd (sym front.0) tt
+pub clock_said : (answer : Result Said Halt) → IfOk answer (λ said. IsUttered said.status) → answer_status answer ≡ ClockFault → answer ≡ Err (halt.Stop stop.ClockFault)
+clock_said (Ok said) uttered is = absurd (subst IsUttered is uttered)
+clock_said (Err (halt.Stop stop.ShelfFault)) uttered is = absurd (cc)
+clock_said (Err (halt.Stop stop.ClockFault)) uttered is = refl
+clock_said (Err (halt.Stop stop.OutOfMemory)) uttered is = absurd (cc)
+clock_said (Err halt.KeeperFault) uttered is = absurd (cc)
 
--- such a run neither reads nor is told the usage
-pub concluded_end : (returned : Result Said Halt) (written sent : Option (List ℕ)) (ended : Status) → IfOk returned (λ said. IsUttered said.status) → IsConcluded returned written sent ended → IsSpokenEnd ended
-concluded_end (Ok said) written sent ended spoken e = ended_end said.status said.text written sent ended (uttered_end said.status spoken) e
-concluded_end (Err (halt.Stop stop.ShelfFault)) written sent ended spoken e = ended_end ShelfFault (with_lf shelf_fault_text) written sent ended tt e
-concluded_end (Err (halt.Stop stop.ClockFault)) written sent ended spoken e = ended_end ClockFault (with_lf clock_fault_text) written sent ended tt e
-concluded_end (Err (halt.Stop stop.OutOfMemory)) written sent ended spoken e = subst IsSpokenEnd (sym e.0) tt
-concluded_end (Err halt.KeeperFault) written sent ended spoken e = ended_end KeeperFault (with_lf keeper_fault_text) written sent ended tt e
+pub keeper_said : (answer : Result Said Halt) → IfOk answer (λ said. IsUttered said.status) → answer_status answer ≡ KeeperFault → answer ≡ Err halt.KeeperFault
+keeper_said (Ok said) uttered is = absurd (subst IsUttered is uttered)
+keeper_said (Err (halt.Stop stop.ShelfFault)) uttered is = absurd (cc)
+keeper_said (Err (halt.Stop stop.ClockFault)) uttered is = absurd (cc)
+keeper_said (Err (halt.Stop stop.OutOfMemory)) uttered is = absurd (cc)
+keeper_said (Err halt.KeeperFault) uttered is = refl
+
+shelf_or_write : (ended : Status) → ended ≡ ShelfFault → ended ≢ WriteFault
+shelf_or_write ended is other = let no : ShelfFault ≡ WriteFault = sym is ∙ other in absurd (cc)
+
+clock_or_write : (ended : Status) → ended ≡ ClockFault → ended ≢ WriteFault
+clock_or_write ended is other = let no : ClockFault ≡ WriteFault = sym is ∙ other in absurd (cc)
+
+keeper_or_write : (ended : Status) → ended ≡ KeeperFault → ended ≢ WriteFault
+keeper_or_write ended is other = let no : KeeperFault ≡ WriteFault = sym is ∙ other in absurd (cc)
+
+pub counts_for : (Says May Tells Might : Type 0) (before now : ℕ) → (Tells → Says) → ((Might → ⊥) → May → ⊥) → Counts Says May before now → Counts Tells Might before now
+counts_for Says May Tells Might before now says may counts = record {
+  later = counts.later;
+  cause = λ tells. counts.cause (says tells);
+  steady = λ none. counts.steady (may none);
+}
+
+-- what holds of a device by what the command returned holds by the end of the run, where the command asks for that device if it returns
+-- the device's fault
+module _ (answer : Result Said Halt) (uttered : IfOk answer (λ said. IsUttered said.status)) (written sent : Option (List ℕ)) (ended : Status) (is : IsConcluded answer written sent ended) where
+  pub shelf_ended : (Asks : Type 0) (files kept : Option (List File)) (before now : ℕ) → (answer ≡ Err (halt.Stop stop.ShelfFault) → Asks) → PassesShelf (answer ≡ Err (halt.Stop stop.ShelfFault)) (answer ≡ Err (halt.Stop stop.ShelfFault)) files kept before now
+      → PassesShelf (ended ≡ ShelfFault) (Asks × MayHide ShelfFault ended) files kept before now
+  shelf_ended Asks files kept before now asks passes = record {
+    kept = passes.kept;
+    counts = counts_for _ _ (ended ≡ ShelfFault) (Asks × MayHide ShelfFault ended) before now
+        (λ told. shelf_said answer uttered (sym (ended_is answer written sent ended is (shelf_or_write ended told)) ∙ told))
+        (λ none may. none (asks may, subst (λ a. (ended ≡ answer_status a) ⊎ (ended ≡ WriteFault)) may (concluded_status answer written sent ended is))) passes.counts;
+  }
+
+  pub clock_ended : (Asks : Type 0) (moments next : Option (List ℕ)) (before now : ℕ) → (answer ≡ Err (halt.Stop stop.ClockFault) → Asks) → PassesClock (answer ≡ Err (halt.Stop stop.ClockFault)) (answer ≡ Err (halt.Stop stop.ClockFault)) moments next before now
+      → PassesClock (ended ≡ ClockFault) (Asks × MayHide ClockFault ended) moments next before now
+  clock_ended Asks moments next before now asks passes = record {
+    telling = passes.telling;
+    counts = counts_for _ _ (ended ≡ ClockFault) (Asks × MayHide ClockFault ended) before now
+        (λ told. clock_said answer uttered (sym (ended_is answer written sent ended is (clock_or_write ended told)) ∙ told))
+        (λ none may. none (asks may, subst (λ a. (ended ≡ answer_status a) ⊎ (ended ≡ WriteFault)) may (concluded_status answer written sent ended is))) passes.counts;
+  }
+
+  pub keeper_ended : (May Might : Type 0) (before now : ℕ) → (May → Might) → (answer ≡ Err halt.KeeperFault → MayHide KeeperFault ended → Might) → Counts (answer ≡ Err halt.KeeperFault) (May ⊎ (answer ≡ Err halt.KeeperFault)) before now → Counts (ended ≡ KeeperFault) Might before now
+  keeper_ended May Might before now may hidden counts =
+      counts_for _ _ (ended ≡ KeeperFault) Might before now
+      (λ told. keeper_said answer uttered (sym (ended_is answer written sent ended is (keeper_or_write ended told)) ∙ told))
+      (λ none either. none (one_way either)) counts
+    where
+      one_way : May ⊎ (answer ≡ Err halt.KeeperFault) → Might
+      one_way (inl made) = may made
+      one_way (inr halted) = hidden halted (subst (λ a. (ended ≡ answer_status a) ⊎ (ended ≡ WriteFault)) halted (concluded_status answer written sent ended is))
+
+  pub keeper_ended_alone : (Might : Type 0) (before now : ℕ) → (answer ≡ Err halt.KeeperFault → MayHide KeeperFault ended → Might) → Counts (answer ≡ Err halt.KeeperFault) (answer ≡ Err halt.KeeperFault) before now → Counts (ended ≡ KeeperFault) Might before now
+  keeper_ended_alone Might before now hidden counts =
+      counts_for _ _ (ended ≡ KeeperFault) Might before now
+      (λ told. keeper_said answer uttered (sym (ended_is answer written sent ended is (keeper_or_write ended told)) ∙ told))
+      (λ none halted. none (hidden halted (subst (λ a. (ended ≡ answer_status a) ⊎ (ended ≡ WriteFault)) halted (concluded_status answer written sent ended is)))) counts
 
 spoken_is_uttered : (status : Status) → IsSpoken status → IsUttered status
-spoken_is_uttered Fine spoken = tt
-spoken_is_uttered Denied spoken = tt
-spoken_is_uttered Usage spoken = absurd spoken
-spoken_is_uttered ReadFault spoken = absurd spoken
-spoken_is_uttered WriteFault spoken = absurd spoken
-spoken_is_uttered ShelfFault spoken = absurd spoken
-spoken_is_uttered ClockFault spoken = absurd spoken
-spoken_is_uttered KeeperFault spoken = absurd spoken
-spoken_is_uttered FileMissing spoken = tt
-spoken_is_uttered FileTooLong spoken = tt
-spoken_is_uttered BadFacts spoken = tt
-spoken_is_uttered BadStore spoken = tt
-spoken_is_uttered Refused spoken = tt
-spoken_is_uttered SessionTooLong spoken = absurd spoken
 spoken_is_uttered OutOfMemory spoken = absurd spoken
+spoken_is_uttered other spoken = spoken
 
 -- what may be said of a run may be said by a command on the rules
 pub spoken_uttered : (returned : Result Said Halt) → IfOk returned (λ said. IsSpoken said.status) → IfOk returned (λ said. IsUttered said.status)

@@ -1,12 +1,15 @@
+mod Caused
 mod Concluded
 mod Deskless
+mod Devices
 mod EndsOfSessions
+mod Exactly
+mod Own
 mod Past
-mod Rehearsed
 mod Runs
 mod Starved
 mod Tables
-mod WithoutDesk
+mod Unopened
 mod UsageAlone
 mod WouldSay
 mod Written

@@ -9,7 +9,7 @@ use Rattle.desk_state.specs.Failures.{Kept}
 use Rattle.session_model.specs.Slots.{State}
 use Rattle.run_status.specs.declared.status.Status.{Status}
 use Rattle.run_status.specs.declared.status.Status.TheVariants.{Fine, Denied, Usage, ReadFault, WriteFault, ShelfFault, ClockFault, KeeperFault, FileMissing, FileTooLong, BadFacts, BadStore, Refused, SessionTooLong, OutOfMemory}
-use Rattle.spctl_cli.specs.Ends.{SessionEnds, UsageEnds, IsSpokenEnd, SpokenEnd, GavePast}
+use Rattle.spctl_cli.specs.Ends.{SessionEnds, UsageEnds, GavePast}
 
 -- bytes that are within the limits don't run past them
 within_or_past : (bytes : List ℕ) → IsWithin bytes → RunsPast bytes → ⊥
@@ -71,6 +71,6 @@ usage_past left now written sent Refused e a b = absurd e
 usage_past left now written sent SessionTooLong e a b = absurd e
 usage_past left now written sent OutOfMemory e a b = absurd (b refl)
 
--- and so does one that says one text
-pub spoken_past : (Says : Status → List ℕ → Type 0) (left now written sent : Option (List ℕ)) (status : Status) → SpokenEnd Says left now written sent status → ((status ≡ SessionTooLong) ↔ GavePast left now)
-spoken_past Says left now written sent status e = (λ is. absurd (subst IsSpokenEnd is e.end), λ past. absurd (nothing_past left (subst (GavePast left) e.unread past)))
+-- and so does one that reads nothing and isn't told so
+pub spoken_past : (left now : Option (List ℕ)) (status : Status) → now ≡ left → status ≢ SessionTooLong → ((status ≡ SessionTooLong) ↔ GavePast left now)
+spoken_past left now status unread apart = (λ is. absurd (apart is), λ past. absurd (nothing_past left (subst (GavePast left) unread past)))

@@ -1,10 +1,10 @@
--- What a run has read and written when it ends. This project's own.
-use Rattle.std.specs.Prelude.{◌≡◌, ◌≢◌, ℕ, ◌⊎◌, List, [], ◌++◌, Option, Some, None}
+-- What a run has read and written when it ends, and what the keeper then tells. This project's own.
+use Rattle.std.specs.Prelude.{◌≡◌, ℕ, ◌⊎◌, List, [], ◌++◌, Option, Some, None, Result, Ok, Err}
 use Rattle.std.specs.Io.KnownBytes.{Appends}
 use Rattle.gk_io.specs.Shelf.{File}
 use Rattle.gk_io.specs.Told.{AppendsFront}
 use Rattle.policy_model.specs.History.{Opening, tables_of}
-use Rattle.policy_keeper.specs.Told.{Told}
+use Rattle.policy_keeper.specs.Told.{Told, Stays}
 use Rattle.policy_keeper.specs.Mirror.{Mirrors}
 use Rattle.desk_state.specs.Failures.{Shows, Kept}
 use Rattle.session_model.specs.Slots.{State}
@@ -12,23 +12,21 @@ use Rattle.session_model.specs.Session.{begun, Session}
 use Rattle.line_reader.specs.Lines.{with_lf}
 use Rattle.line_reader.specs.Limits.{RunsPast}
 use Rattle.line_session.specs.Ends.{StopsBefore, BreaksOff, AtReadFault, AtLimit, AtWant}
+use Rattle.desk_lines.specs.Memory.{TakesMemory}
+use Rattle.run_status.specs.declared.said.Said.{Said}
+use Rattle.run_status.specs.declared.stop.Stop.TheVariants as stop
 use Rattle.run_status.specs.declared.status.Status.{Status}
-use Rattle.run_status.specs.declared.status.Status.TheVariants.{Fine, Usage, ReadFault, WriteFault, ClockFault, SessionTooLong, OutOfMemory}
-use Rattle.desk_opening.specs.Opens.{IsOpening, SaysUnopened}
-use Rattle.command_words.specs.Table.{Command, session, on_files, on_tables, rehearse}
+use Rattle.run_status.specs.declared.status.Status.TheVariants.{Fine, Usage, ReadFault, WriteFault, SessionTooLong, OutOfMemory}
+use Rattle.desk_opening.specs.Opens.{IsOpening}
+use Rattle.command_words.specs.Table.{FileCommand, Command, session, on_files, on_tables, rehearse}
 use Rattle.command_words.specs.Lines.{CommandLine}
-use Rattle.run_commands.specs.Says.{FilesSay, TablesSay}
+use Rattle.run_commands.specs.declared.halt.Halt.{Halt}
+use Rattle.run_commands.specs.declared.halt.Halt.TheVariants as halt
+use Rattle.run_commands.specs.Answers.{UnopenedAnswers, FilesAnswer, TablesAnswer}
 use Rattle.rehearse_command.specs.Rehearsing.{SaysRehearsal}
-use Rattle.spctl_cli.specs.Conclusions.{Concludes}
+use Rattle.spctl_cli.specs.Conclusions.{Tally, SpokenEnd}
 use Rattle.spctl_cli.specs.Headline.{IsSession}
 use Rattle.spctl_cli.specs.LastLines.{read_fault_text, too_long_text, usage_text}
-
--- a run that says one text neither reads an input nor is told the usage
-abbrev pub IsSpokenEnd : Status → Type 0
-IsSpokenEnd Usage = ⊥
-IsSpokenEnd ReadFault = ⊥
-IsSpokenEnd SessionTooLong = ⊥
-IsSpokenEnd other = Unit {0}
 
 -- the lines get the replies, whatever state they lead to; the keeper has the tables of that, and at most as many edits failed as its count
 -- shows
@@ -56,7 +54,7 @@ SessionEnds kept o s left now written sent WriteFault =
     BreaksOff (AnswersKept kept o s) left now written sent
     ⊎ (BreaksAtFault AtReadFault read_fault_text kept o s left now written sent ⊎ BreaksAtFault AtLimit too_long_text kept o s left now written sent)
 SessionEnds kept o s left now written sent SessionTooLong = TellsFault AtLimit too_long_text kept o s left now written sent
-SessionEnds kept o s left now written sent OutOfMemory = StopsBefore AtWant (AnswersKept kept o s) left now written sent
+SessionEnds kept o s left now written sent OutOfMemory = StopsBefore (AtWant TakesMemory) (AnswersKept kept o s) left now written sent
 SessionEnds kept o s left now written sent other = ⊥
 
 -- nothing was read, and the sink gained just the text
@@ -76,54 +74,48 @@ UsageEnds left now written sent WriteFault = TellsFront (with_lf usage_text) lef
 UsageEnds left now written sent OutOfMemory = Tells [] left now written sent
 UsageEnds left now written sent other = ⊥
 
--- how a run ends whose command says one text: nothing was read, and what is said was written
-pub record SpokenEnd (Says : Status → List ℕ → Type 0) (left now written sent : Option (List ℕ)) (status : Status) : Type 0 where
-  pub unread : now ≡ left
-  pub end : IsSpokenEnd status
-  pub concludes : Concludes Says written sent status
-
--- a rehearsal that ends asked for nothing but its output and memory
-abbrev pub IsRehearsed : Status → Type 0
-IsRehearsed Fine = Unit {0}
-IsRehearsed WriteFault = Unit {0}
-IsRehearsed OutOfMemory = Unit {0}
-IsRehearsed other = ⊥
-
--- how a rehearsal ends: what is said was written; no device but the sink is asked
-pub record RehearsedEnd (steps : ℕ) (left now written sent : Option (List ℕ)) (status : Status) : Type 0 where
-  pub spoken : SpokenEnd (SaysRehearsal steps) left now written sent status
-  pub alone : IsRehearsed status
-
 -- how a session ends over a desk that is opened where its run begins
 pub record OpenedEnd (files : Option (List File)) (rows : Told) (kept : Kept) (facts : Option (List ℕ)) (left now written sent : Option (List ℕ)) (status : Status) : Type 0 where
   pub opening : Opening
   pub is_opening : IsOpening files facts rows opening
   pub ends : SessionEnds kept opening begun left now written sent status
 
--- how a session ends that has no desk: what is wrong with the facts or the store is said; the clock isn't asked
-pub record UnopenedEnd (files : Option (List File)) (rows : Told) (facts : Option (List ℕ)) (left now written sent : Option (List ℕ)) (status : Status) : Type 0 where
-  pub spoken : SpokenEnd (SaysUnopened files facts rows) left now written sent status
-  pub unasked : status ≢ ClockFault
+-- how a session ends that has no desk: what is wrong with the facts or the store is said, or why nothing is; the keeper's rows are as they
+-- were
+pub record UnopenedEnd (files : Option (List File)) (rows : Told) (kept : Kept) (tally : Tally) (facts : Option (List ℕ)) (left now written sent : Option (List ℕ)) (status : Status) : Type 0 where
+  pub spoken : SpokenEnd (UnopenedAnswers files rows facts) tally left now written sent status
+  pub stays : Stays rows kept.told
 
 -- how a session ends, over its desk or where it has none
-abbrev pub SessionRun : Option (List File) → Told → Kept → Option (List ℕ) → Option (List ℕ) → Option (List ℕ) → Option (List ℕ) → Option (List ℕ) → Status → Type 0
-SessionRun files rows kept facts left now written sent status =
-    OpenedEnd files rows kept facts left now written sent status ⊎ UnopenedEnd files rows facts left now written sent status
+abbrev pub SessionRun : Option (List File) → Told → Kept → Tally → Option (List ℕ) → Option (List ℕ) → Option (List ℕ) → Option (List ℕ) → Option (List ℕ) → Status → Type 0
+SessionRun files rows kept tally facts left now written sent status =
+    OpenedEnd files rows kept facts left now written sent status ⊎ UnopenedEnd files rows kept tally facts left now written sent status
+
+-- how a command on files ends, which changes no row
+pub record FilesEnd (files : Option (List File)) (moments : Option (List ℕ)) (rows : Told) (kept : Kept) (tally : Tally) (facts : Option (List ℕ)) (command : FileCommand) (left now written sent : Option (List ℕ)) (status : Status) : Type 0 where
+  pub spoken : SpokenEnd (FilesAnswer files moments rows facts command) tally left now written sent status
+  pub stays : Stays rows kept.told
+
+-- what comes of a rehearsal: it says its counts, or finds no memory
+abbrev pub RehearsalAnswers : ℕ → Result Said Halt → Type 0
+RehearsalAnswers steps (Ok said) = SaysRehearsal steps said.status said.text
+RehearsalAnswers steps (Err why) = why ≡ halt.Stop stop.OutOfMemory
 
 -- how a run ends, by its command, its facts file and its status. The shelf has these files and the clock these moments to come, where they
--- tell; rows are those that the keeper told as the run began, where it told them throughout, and kept what it tells as it ends
-abbrev pub CommandEnds : Option (List File) → Option (List ℕ) → Told → Kept → Option (List ℕ) → Command → Option (List ℕ) → Option (List ℕ) → Option (List ℕ) → Option (List ℕ) → Status → Type 0
-CommandEnds files moments rows kept facts session left now written sent status = SessionRun files rows kept facts left now written sent status
-CommandEnds files moments rows kept facts (on_files command) left now written sent status =
-    SpokenEnd (FilesSay files moments rows facts command) left now written sent status
-CommandEnds files moments rows kept facts (on_tables command) left now written sent status =
-    SpokenEnd (TablesSay files rows kept command) left now written sent status
-CommandEnds files moments rows kept facts (rehearse steps) left now written sent status = RehearsedEnd steps left now written sent status
+-- tell; rows are those that the keeper told when its load had answered, and kept is what it tells as the run ends
+abbrev pub CommandEnds : Option (List File) → Option (List ℕ) → Told → Kept → Tally → Option (List ℕ) → Command → Option (List ℕ) → Option (List ℕ) → Option (List ℕ) → Option (List ℕ) → Status → Type 0
+CommandEnds files moments rows kept tally facts session left now written sent status = SessionRun files rows kept tally facts left now written sent status
+CommandEnds files moments rows kept tally facts (on_files command) left now written sent status =
+    FilesEnd files moments rows kept tally facts command left now written sent status
+CommandEnds files moments rows kept tally facts (on_tables command) left now written sent status =
+    SpokenEnd (TablesAnswer files rows kept command) tally left now written sent status
+CommandEnds files moments rows kept tally facts (rehearse steps) left now written sent status =
+    SpokenEnd (RehearsalAnswers steps) tally left now written sent status
 
 -- and by its words, which may be no command
-abbrev pub RunEnds : Option (List File) → Option (List ℕ) → Told → Kept → Option CommandLine → Option (List ℕ) → Option (List ℕ) → Option (List ℕ) → Option (List ℕ) → Status → Type 0
-RunEnds files moments rows kept None left now written sent status = UsageEnds left now written sent status
-RunEnds files moments rows kept (Some line) left now written sent status = CommandEnds files moments rows kept line.facts line.command left now written sent status
+abbrev pub RunEnds : Option (List File) → Option (List ℕ) → Told → Kept → Tally → Option CommandLine → Option (List ℕ) → Option (List ℕ) → Option (List ℕ) → Option (List ℕ) → Status → Type 0
+RunEnds files moments rows kept tally None left now written sent status = UsageEnds left now written sent status
+RunEnds files moments rows kept tally (Some line) left now written sent status = CommandEnds files moments rows kept tally line.facts line.command left now written sent status
 
 -- the source, which tells its bytes, gave one past the limits of a session
 abbrev pub GavePast : Option (List ℕ) → Option (List ℕ) → Type 0

@@ -1,7 +1,7 @@
 //! What ends the output of a run.
 
-ghost use Rattle.std.specs.Prelude.{◌≡◌, ◌≢◌, ◌≤◌, OnOk, OnErr, is_some};
-ghost use Rattle.gk_io.specs.Faults.{Rose};
+ghost use Rattle.std.specs.Prelude.{◌≡◌, ◌≢◌, IsErr, OnOk};
+ghost use Rattle.gk_io.specs.Devices.{PassesSink};
 ghost use Rattle.gk_io.specs.Told.{IsFlushed, PutAppends};
 ghost use Rattle.spctl_cli.specs.LastLines.{IsEndedBy};
 
@@ -12,12 +12,8 @@ use run_status::Status;
 pub fn end_with<W: Sink>(output: &mut W, text: &[u8], status: Status) -> Status
     requires { status ≢ Status.WriteFault }
     ensures put { IsEndedBy status text.now (W.written output.old) (W.written output.new) result }
-    ensures flushed { result ≢ Status.WriteFault → IsFlushed (W.flushed output.new) (W.written output.new) }
-    ensures telling { is_some (W.written output.new) ≡ is_some (W.written output.old) }
-    ensures flushed_telling { is_some (W.flushed output.new) ≡ is_some (W.flushed output.old) }
-    ensures later { W.faults output.old ≤ W.faults output.new }
-    ensures cause { result ≡ Status.WriteFault → Rose (W.faults output.old) (W.faults output.new) }
-    ensures steady { result ≢ Status.WriteFault → W.faults output.new ≡ W.faults output.old }
+    ensures output { PassesSink (result ≡ Status.WriteFault) (result ≡ Status.WriteFault) (W.written output.old) (W.written output.new)
+        (W.flushed output.old) (W.flushed output.new) (W.faults output.old) (W.faults output.new) }
 {
     match write_out(output, text) {
         Ok(()) => status,
@@ -29,11 +25,8 @@ pub fn end_with<W: Sink>(output: &mut W, text: &[u8], status: Status) -> Status
 fn write_out<W: Sink>(output: &mut W, text: &[u8]) -> Result<(), Failed>
     ensures bytes { PutAppends (W.written output.old) (W.written output.new) result text.now }
     ensures flushed { OnOk result (IsFlushed (W.flushed output.new) (W.written output.new)) }
-    ensures telling { is_some (W.written output.new) ≡ is_some (W.written output.old) }
-    ensures flushed_telling { is_some (W.flushed output.new) ≡ is_some (W.flushed output.old) }
-    ensures later { W.faults output.old ≤ W.faults output.new }
-    ensures cause { OnErr result (Rose (W.faults output.old) (W.faults output.new)) }
-    ensures steady { OnOk result (W.faults output.new ≡ W.faults output.old) }
+    ensures output { PassesSink (IsErr result) (IsErr result) (W.written output.old) (W.written output.new)
+        (W.flushed output.old) (W.flushed output.new) (W.faults output.old) (W.faults output.new) }
 {
     output.put(text)?;
     output.flush()

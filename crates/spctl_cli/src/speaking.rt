@@ -1,13 +1,16 @@
 //! The commands that say one text.
 
-ghost use Rattle.std.specs.Prelude.{◌≡◌, ◌≢◌, ◌≤◌, ℕ, List, Option, is_some};
-ghost use Rattle.gk_io.specs.Faults.{Rose};
-ghost use Rattle.gk_io.specs.Shelf.{KeepsFiles};
-ghost use Rattle.gk_io.specs.Told.{IsFlushed};
+ghost use Rattle.std.specs.Prelude.{◌≡◌, ℕ, List, Option, None};
+ghost use Rattle.gk_io.specs.Devices.{Counts, PassesClock, PassesShelf, PassesSink};
+ghost use Rattle.policy_keeper.specs.Told.{Told};
+ghost use Rattle.desk_opening.specs.Opens.{IsLoaded, PassesLoad};
+ghost use Rattle.command_words.specs.Table as model;
 ghost use Rattle.command_words.specs.Views.{file_view, table_view, text_of};
 ghost use Rattle.desk_state.specs.Failures.{kept_by};
-ghost use Rattle.run_commands.specs.Says.{FilesSay, TablesSay, told_through};
-ghost use Rattle.spctl_cli.specs.Ends.{RehearsedEnd, SpokenEnd, UsageEnds};
+ghost use Rattle.run_commands.specs.Answers.{LeavesAlone, TablesAnswer};
+ghost use Rattle.spctl_cli.specs.Conclusions.{SpokenEnd, Tally, tally_of};
+ghost use Rattle.spctl_cli.specs.Ends.{FilesEnd, RehearsalAnswers, UsageEnds};
+ghost use Rattle.spctl_cli.specs.Statuses.{AsksClock, AsksKeeper, AsksShelf, IsOfCommand, IsOfUsage, IsRehearsed, MayHide};
 
 use crate::conclusion::conclude;
 use crate::last_line::end_with;
@@ -29,27 +32,16 @@ pub(crate) fn on_files<W: Sink, H: Shelf, K: Keeper, C: Clock>(
     keeper: &mut K,
     clock: &mut C,
 ) -> Status
-    ensures ends { (left : Option (List ℕ)) → SpokenEnd (FilesSay (H.files shelf.old) (C.moments clock.old) (told_through (K.told keeper.old) (K.told keeper.new)) (text_of facts.entry) (file_view command.entry))
+    ensures ends { (left : Option (List ℕ)) → FilesEnd (H.files shelf.old) (C.moments clock.old) (K.told keeper.new) (kept_by (K.told keeper.new) (K.faults keeper.old) (K.faults keeper.new))
+        (tally_of (H.faults shelf.old) (H.faults shelf.new) (K.faults keeper.old) (K.faults keeper.new) (C.faults clock.old) (C.faults clock.new)) (text_of facts.entry) (file_view command.entry)
         left left (W.written output.old) (W.written output.new) result }
-    ensures flushed { result ≢ Status.WriteFault → IsFlushed (W.flushed output.old) (W.written output.old)
-        → IsFlushed (W.flushed output.new) (W.written output.new) }
-    ensures output_telling { is_some (W.written output.new) ≡ is_some (W.written output.old) }
-    ensures flushed_telling { is_some (W.flushed output.new) ≡ is_some (W.flushed output.old) }
-    ensures write_cause { result ≡ Status.WriteFault → Rose (W.faults output.old) (W.faults output.new) }
-    ensures write_steady { result ≢ Status.WriteFault → W.faults output.new ≡ W.faults output.old }
-    ensures output_later { W.faults output.old ≤ W.faults output.new }
-    ensures shelf_cause { result ≡ Status.ShelfFault → Rose (H.faults shelf.old) (H.faults shelf.new) }
-    ensures shelf_steady { result ≢ Status.WriteFault → result ≢ Status.ShelfFault
-        → H.faults shelf.new ≡ H.faults shelf.old }
-    ensures shelf_kept { KeepsFiles (H.files shelf.old) (H.files shelf.new) }
-    ensures shelf_later { H.faults shelf.old ≤ H.faults shelf.new }
-    ensures keeper_cause { result ≡ Status.KeeperFault → Rose (K.faults keeper.old) (K.faults keeper.new) }
-    ensures keeper_later { K.faults keeper.old ≤ K.faults keeper.new }
-    ensures clock_telling { is_some (C.moments clock.new) ≡ is_some (C.moments clock.old) }
-    ensures clock_cause { result ≡ Status.ClockFault → Rose (C.faults clock.old) (C.faults clock.new) }
-    ensures clock_steady { result ≢ Status.WriteFault → result ≢ Status.ClockFault
-        → C.faults clock.new ≡ C.faults clock.old }
-    ensures clock_later { C.faults clock.old ≤ C.faults clock.new }
+    ensures own { IsOfCommand (model.on_files (file_view command.entry)) result }
+    ensures leaves { LeavesAlone (file_view command.entry) (K.told keeper.old) (K.told keeper.new) (C.moments clock.old) (C.moments clock.new) }
+    ensures output { PassesSink (result ≡ Status.WriteFault) (result ≡ Status.WriteFault) (W.written output.old) (W.written output.new)
+        (W.flushed output.old) (W.flushed output.new) (W.faults output.old) (W.faults output.new) }
+    ensures shelf { PassesShelf (result ≡ Status.ShelfFault) (AsksShelf (text_of facts.entry) (model.on_files (file_view command.entry)) × MayHide Status.ShelfFault result) (H.files shelf.old) (H.files shelf.new) (H.faults shelf.old) (H.faults shelf.new) }
+    ensures keeper { PassesLoad (result ≡ Status.KeeperFault) (AsksKeeper (model.on_files (file_view command.entry)) result) (K.told keeper.old) (K.told keeper.new) (K.faults keeper.old) (K.faults keeper.new) }
+    ensures clock { PassesClock (result ≡ Status.ClockFault) (AsksClock (model.on_files (file_view command.entry)) × MayHide Status.ClockFault result) (C.moments clock.old) (C.moments clock.new) (C.faults clock.old) (C.faults clock.new) }
 {
     let ended = said_of_files(alloc, facts, command, shelf, keeper, clock);
     conclude(output, ended)
@@ -63,23 +55,14 @@ pub(crate) fn on_tables<W: Sink, H: Shelf, K: Keeper>(
     shelf: &mut H,
     keeper: &mut K,
 ) -> Status
-    ensures ends { (left : Option (List ℕ)) → SpokenEnd (TablesSay (H.files shelf.old) (told_through (K.told keeper.old) (K.told keeper.new)) (kept_by (K.told keeper.new) (K.faults keeper.old) (K.faults keeper.new)) (table_view command.entry))
-        left left (W.written output.old) (W.written output.new) result }
-    ensures flushed { result ≢ Status.WriteFault → IsFlushed (W.flushed output.old) (W.written output.old)
-        → IsFlushed (W.flushed output.new) (W.written output.new) }
-    ensures output_telling { is_some (W.written output.new) ≡ is_some (W.written output.old) }
-    ensures flushed_telling { is_some (W.flushed output.new) ≡ is_some (W.flushed output.old) }
-    ensures write_cause { result ≡ Status.WriteFault → Rose (W.faults output.old) (W.faults output.new) }
-    ensures write_steady { result ≢ Status.WriteFault → W.faults output.new ≡ W.faults output.old }
-    ensures output_later { W.faults output.old ≤ W.faults output.new }
-    ensures shelf_cause { result ≡ Status.ShelfFault → Rose (H.faults shelf.old) (H.faults shelf.new) }
-    ensures shelf_steady { result ≢ Status.WriteFault → result ≢ Status.ShelfFault
-        → H.faults shelf.new ≡ H.faults shelf.old }
-    ensures shelf_kept { KeepsFiles (H.files shelf.old) (H.files shelf.new) }
-    ensures shelf_later { H.faults shelf.old ≤ H.faults shelf.new }
-    ensures keeper_cause { result ≡ Status.KeeperFault → Rose (K.faults keeper.old) (K.faults keeper.new) }
-    ensures keeper_later { K.faults keeper.old ≤ K.faults keeper.new }
-    ensures unasked { result ≢ Status.WriteFault → result ≢ Status.ClockFault }
+    ensures ends { (left : Option (List ℕ)) (times : ℕ) → (rows : Told) × IsLoaded (K.told keeper.old) rows (K.told keeper.new)
+        × SpokenEnd (TablesAnswer (H.files shelf.old) rows (kept_by (K.told keeper.new) (K.faults keeper.old) (K.faults keeper.new)) (table_view command.entry))
+        (tally_of (H.faults shelf.old) (H.faults shelf.new) (K.faults keeper.old) (K.faults keeper.new) times times) left left (W.written output.old) (W.written output.new) result }
+    ensures own { IsOfCommand (model.on_tables (table_view command.entry)) result }
+    ensures output { PassesSink (result ≡ Status.WriteFault) (result ≡ Status.WriteFault) (W.written output.old) (W.written output.new)
+        (W.flushed output.old) (W.flushed output.new) (W.faults output.old) (W.faults output.new) }
+    ensures shelf { PassesShelf (result ≡ Status.ShelfFault) (AsksShelf None (model.on_tables (table_view command.entry)) × MayHide Status.ShelfFault result) (H.files shelf.old) (H.files shelf.new) (H.faults shelf.old) (H.faults shelf.new) }
+    ensures keeper { Counts (result ≡ Status.KeeperFault) (AsksKeeper (model.on_tables (table_view command.entry)) result) (K.faults keeper.old) (K.faults keeper.new) }
 {
     let ended = said_of_tables(alloc, command, shelf, keeper);
     conclude(output, ended)
@@ -87,15 +70,10 @@ pub(crate) fn on_tables<W: Sink, H: Shelf, K: Keeper>(
 
 /// Writes what a rehearsal says.
 pub(crate) fn on_rehearsal<W: Sink>(alloc: Global, steps: u32, output: &mut W) -> Status
-    ensures ends { (left : Option (List ℕ))
-        → RehearsedEnd steps left left (W.written output.old) (W.written output.new) result }
-    ensures flushed { result ≢ Status.WriteFault → IsFlushed (W.flushed output.old) (W.written output.old)
-        → IsFlushed (W.flushed output.new) (W.written output.new) }
-    ensures output_telling { is_some (W.written output.new) ≡ is_some (W.written output.old) }
-    ensures flushed_telling { is_some (W.flushed output.new) ≡ is_some (W.flushed output.old) }
-    ensures write_cause { result ≡ Status.WriteFault → Rose (W.faults output.old) (W.faults output.new) }
-    ensures write_steady { result ≢ Status.WriteFault → W.faults output.new ≡ W.faults output.old }
-    ensures output_later { W.faults output.old ≤ W.faults output.new }
+    ensures ends { (left : Option (List ℕ)) (tally : Tally) → SpokenEnd (RehearsalAnswers steps) tally left left (W.written output.old) (W.written output.new) result }
+    ensures own { IsRehearsed result }
+    ensures output { PassesSink (result ≡ Status.WriteFault) (result ≡ Status.WriteFault) (W.written output.old) (W.written output.new)
+        (W.flushed output.old) (W.flushed output.new) (W.faults output.old) (W.faults output.new) }
 {
     match rehearse(alloc, steps) {
         Ok(said) => end_with(output, said.text.as_slice(), said.status),
@@ -105,15 +83,10 @@ pub(crate) fn on_rehearsal<W: Sink>(alloc: Global, steps: u32, output: &mut W) -
 
 /// Tells how the program is called.
 pub(crate) fn usage<W: Sink>(output: &mut W) -> Status
-    ensures ends { (left : Option (List ℕ))
-        → UsageEnds left left (W.written output.old) (W.written output.new) result }
-    ensures flushed { result ≢ Status.WriteFault → IsFlushed (W.flushed output.new) (W.written output.new) }
-    ensures output_telling { is_some (W.written output.new) ≡ is_some (W.written output.old) }
-    ensures flushed_telling { is_some (W.flushed output.new) ≡ is_some (W.flushed output.old) }
-    ensures write_cause { result ≡ Status.WriteFault → Rose (W.faults output.old) (W.faults output.new) }
-    ensures write_steady { result ≢ Status.WriteFault → W.faults output.new ≡ W.faults output.old }
-    ensures output_later { W.faults output.old ≤ W.faults output.new }
-    ensures own { result ≢ Status.WriteFault → result ≡ Status.Usage }
+    ensures ends { (left : Option (List ℕ)) → UsageEnds left left (W.written output.old) (W.written output.new) result }
+    ensures own { IsOfUsage result }
+    ensures output { PassesSink (result ≡ Status.WriteFault) (result ≡ Status.WriteFault) (W.written output.old) (W.written output.new)
+        (W.flushed output.old) (W.flushed output.new) (W.faults output.old) (W.faults output.new) }
 {
     end_with(
         output,

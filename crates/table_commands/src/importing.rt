@@ -1,8 +1,7 @@
 //! `import NAME`: an edit a row, each with its reply.
 
 ghost use Rattle.std.specs.Prelude.{◌≡◌, ◌≢◌, ◌≤◌, [], List, Err, IfOk, IsSome, OnErr};
-ghost use Rattle.gk_io.specs.Faults.{Rose};
-ghost use Rattle.gk_io.specs.Shelf.{KeepsFiles};
+ghost use Rattle.gk_io.specs.Devices.{PassesShelf};
 ghost use Rattle.policy_model.specs.History.{Event, Opening};
 ghost use Rattle.line_reader.specs.Lines.{with_lf};
 ghost use Rattle.import_csv.specs.FaultText.{import_fault_text};
@@ -40,10 +39,7 @@ pub fn import<H: Shelf, K: Keeper>(
     ensures mirrors { Mirrors (K.told keeper.new) (tables desk.new) }
     ensures telling { IsSome (K.told keeper.new) → IsSome (K.told keeper.old) }
     ensures keeper_later { K.faults keeper.old ≤ K.faults keeper.new }
-    ensures kept { KeepsFiles (H.files shelf.old) (H.files shelf.new) }
-    ensures later { H.faults shelf.old ≤ H.faults shelf.new }
-    ensures cause { result ≡ Err Stop.ShelfFault → Rose (H.faults shelf.old) (H.faults shelf.new) }
-    ensures steady { result ≢ Err Stop.ShelfFault → H.faults shelf.new ≡ H.faults shelf.old }
+    ensures shelf { PassesShelf (result ≡ Err Stop.ShelfFault) (result ≡ Err Stop.ShelfFault) (H.files shelf.old) (H.files shelf.new) (H.faults shelf.old) (H.faults shelf.new) }
     ensures unasked { result ≢ Err Stop.ClockFault }
 {
     match fetch_file(alloc, shelf, name, MOST_IMPORT_BYTES)? {
