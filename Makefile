@@ -1,7 +1,7 @@
-# make try        a first session in an unproved build: half a minute to a minute
+# make try        a first session in an unproved build: two to three minutes
 # make build      leaves the proved program in build/gatekeeper; where nothing is proved yet, it takes half an hour and more on four processors
 # make demo       the same session in the proved program
-# make test       the gate: proves all crates, tries the wrong bodies, runs tests and programs, and then 'make check'
+# make test       the gate: proves all crates, tries wrong bodies, runs tests and programs, and then 'make check'
 # make check      the repository's own checks of its program and its pages
 # make install    installs the program, its man pages and its completion for bash below PREFIX=/usr/local
 # make uninstall  removes them
@@ -22,7 +22,7 @@ demo: build
 	@scripts/show-session $(SESSION) build/gatekeeper :memory: session
 
 try:
-	@echo "an unproved build of the same sources (the toolchain's words: build/try.log)"
+	@echo "an unproved build of the same sources, which takes two to three minutes (the toolchain's words: build/try.log)"
 	@scripts/show-session $(SESSION) scripts/try-program :memory: session
 
 test:

@@ -138,10 +138,10 @@ struct Begun {
     outcome: Outcome,
     at: u64,
     cached: bool,
-    edits: u64,
+    edits: usize,
 }
 
-// What was accepted under each key, by the text behind the key; the rest are lists.
+// What was accepted under each key, by the text behind the key; the rest are lists, of edits the ranks that they touched.
 #[derive(Default)]
 struct Desk {
     rules: Vec<Rule>,
@@ -149,7 +149,7 @@ struct Desk {
     now: u64,
     notarized: Vec<[u8; 20]>,
     kept: Vec<(Subject, Outcome)>,
-    edits: [u64; 3],
+    edits: [Vec<(i64, u32)>; 3],
     open: Vec<(u64, Begun)>,
 }
 
@@ -187,7 +187,7 @@ fn requirement_of(text: &[u8]) -> Option<Requirement> {
 
 // Drops what rests on a rule of this rank in the kind.
 fn touch(desk: &mut Desk, kind: usize, rank: (i64, u32)) {
-    desk.edits[kind] += 1;
+    desk.edits[kind].push(rank);
     desk.kept.retain(|(subject, outcome)| subject.kind != kind || outcome.rule.is_some_and(|(own, _)| own < rank));
 }
 
@@ -273,7 +273,16 @@ fn begin<'a>(desk: &Desk, mut words: impl Iterator<Item = &'a [u8]>) -> Option<B
     let found = kept(desk, &subject).cloned();
     let cached = found.is_some();
     let outcome = found.unwrap_or_else(|| judge(desk, &subject));
-    Some(Begun { subject, outcome, at: desk.now, cached, edits: desk.edits[kind] })
+    Some(Begun { subject, outcome, at: desk.now, cached, edits: desk.edits[kind].len() })
+}
+
+// More than 64 edits of the kind came since, or one of them touched a rule that isn't behind the one that decided.
+fn has_moved(desk: &Desk, begun: &Begun) -> bool {
+    let late = &desk.edits[begun.subject.kind][begun.edits..];
+    match begun.outcome.rule {
+        Some((own, _)) => late.len() > 64 || late.iter().any(|rank| *rank <= own),
+        None => !late.is_empty(),
+    }
 }
 
 fn finish(desk: &mut Desk, begun: Begun, out: &mut Vec<u8>) -> Option<()> {
@@ -291,7 +300,7 @@ fn finish(desk: &mut Desk, begun: Begun, out: &mut Vec<u8>) -> Option<()> {
     out.extend_from_slice(&begun.outcome.label);
     let words = if begun.cached {
         "source=cache cache=none"
-    } else if begun.edits != desk.edits[begun.subject.kind] {
+    } else if has_moved(desk, &begun) {
         "source=rules cache=moved"
     } else if begun.outcome.until.is_some_and(|end| now >= end) {
         "source=rules cache=expired"

@@ -217,17 +217,17 @@ struct Begun {
     at: u64,
     cached: bool,
     keeps: bool,
-    edits: u64,
+    edits: usize,
 }
 
-// What was accepted under each key, by the text behind the key.
+// What was accepted under each key, by the text behind the key; for each kind the ranks that edits touched.
 #[derive(Default)]
 struct Desk {
     rules: Vec<Rule>,
     receipts: BTreeMap<Vec<u8>, (u32, Vec<u8>)>,
     now: u64,
     cache: HashMap<Subject, Outcome>,
-    edits: HashMap<Vec<u8>, u64>,
+    edits: HashMap<Vec<u8>, Vec<(i64, u32)>>,
     open: HashMap<u64, Begun>,
 }
 
@@ -253,7 +253,7 @@ fn add(desk: &mut Desk, line: &[u8], out: &mut Vec<u8>) -> Option<()> {
         expires: number(expiry),
         requirement,
     });
-    *desk.edits.entry(kind.to_vec()).or_default() += 1;
+    desk.edits.entry(kind.to_vec()).or_default().push((-priority, id));
     desk.cache.retain(|subject, kept| subject.0 != kind || kept.rule.is_some_and(|(rank, rule, _)| (-rank, rule) < (-priority, id)));
     write!(out, "ok edit={id} rules=1").ok()
 }
@@ -289,8 +289,17 @@ fn begin<'a>(desk: &Desk, mut words: impl Iterator<Item = &'a [u8]>) -> Option<B
     let kept = desk.cache.get(&subject).filter(|kept| kept.until.is_none_or(|end| desk.now < end));
     let cached = kept.is_some();
     let outcome = kept.cloned().unwrap_or_else(|| judge(desk, &subject));
-    let edits = desk.edits.get(kind).copied().unwrap_or(0);
+    let edits = desk.edits.get(kind).map_or(0, Vec::len);
     Some(Begun { subject, outcome, at: desk.now, cached, keeps, edits })
+}
+
+// More than 64 edits of the kind came since, or one of them touched a rule that isn't behind the one that decided.
+fn has_moved(desk: &Desk, begun: &Begun) -> bool {
+    let late = desk.edits.get(&begun.subject.0).map_or(&[][..], |ranks| &ranks[begun.edits..]);
+    match begun.outcome.rule {
+        Some((priority, rule, _)) => late.len() > 64 || late.iter().any(|rank| *rank <= (-priority, rule)),
+        None => !late.is_empty(),
+    }
 }
 
 fn finish(desk: &mut Desk, begun: Begun, out: &mut Vec<u8>) -> Option<()> {
@@ -300,7 +309,7 @@ fn finish(desk: &mut Desk, begun: Begun, out: &mut Vec<u8>) -> Option<()> {
         "source=cache cache=none"
     } else if !begun.keeps {
         "source=rules cache=inhibited"
-    } else if begun.edits != desk.edits.get(&begun.subject.0).copied().unwrap_or(0) {
+    } else if has_moved(desk, &begun) {
         "source=rules cache=moved"
     } else if begun.outcome.until.is_some_and(|end| now >= end) {
         "source=rules cache=expired"
