@@ -1,6 +1,7 @@
 //! Rules that are copied, kept and found.
 use crate::made::{new_rule, subject};
 use authority_table::{Found, Table};
+use req_tree::Subject;
 use rule_values::{Kind, Moment, Rule, RuleId};
 use std::alloc::Global;
 use std::test::Fail;
@@ -33,31 +34,29 @@ fn both_found(alloc: Global) -> Option<bool> {
     kept(alloc, &mut table, 2, 0)?;
     kept(alloc, &mut table, 3, 0)?;
     let subject = subject()?;
-    let found = table.find(Kind::Execute, &subject, None, Moment::zero());
-    let other = table.find(Kind::Install, &subject, None, Moment::zero());
-    Some(table.count() == 3 && governs_beside(&found, 2, 1) && finds_none(&other))
+    Some(table.count() == 3 && finds_both(&table, &subject) && finds_none(&table, &subject))
 }
 
-fn governs_beside(found: &Found<'_>, number: u32, latent_number: u32) -> bool {
-    match found {
+fn finds_both(table: &Table, subject: &Subject) -> bool {
+    match table.find(Kind::Execute, subject, None, Moment::zero()) {
         Found::Governed {
             rule,
             until,
             latent,
         } => {
             until.map(|moment| moment.get()) == Some(1_000)
-                && is_found(Some(rule), number)
-                && is_found(*latent, latent_number)
+                && is_found(Some(rule), 2)
+                && is_found(latent, 1)
         }
         Found::Default { .. } => false,
     }
 }
 
 // a denial stands for a minute
-fn finds_none(found: &Found<'_>) -> bool {
-    match found {
+fn finds_none(table: &Table, subject: &Subject) -> bool {
+    match table.find(Kind::Install, subject, None, Moment::zero()) {
         Found::Governed { .. } => false,
-        Found::Default { latent, until } => latent.is_none() && *until == 60,
+        Found::Default { latent, until } => latent.is_none() && until == 60,
     }
 }
 

@@ -161,7 +161,7 @@ accepted at=0 rule=2 latent=none label=- override=security%20disabled source=cac
 
 // What is answered when so many lower rules have come between.
 #[rattlefmt::skip]
-const MANY_LOWER: [(u32, &[u8]); 2] = [
+const MANY_LOWER: [(u16, &[u8]); 2] = [
     (64, b"> finish 1
 accepted at=0 rule=1 latent=none label=- override=none source=rules cache=kept
 > assess execute 1111111111111111111111111111111111111111 com.example.app 0
@@ -173,7 +173,7 @@ accepted at=0 rule=1 latent=none label=- override=none source=rules cache=kept")
 ];
 
 // A rule that decides what is begun, so many rules behind it, and these rows.
-fn with_lower_rules(alloc: Global, lower: u32, rows: &[u8]) -> Result<Vec<u8>, AllocError> {
+fn with_lower_rules(alloc: Global, lower: u16, rows: &[u8]) -> Result<Vec<u8>, AllocError> {
     let mut transcript = Vec::new(alloc);
     transcript.extend_from_slice(
         b"> add lo execute allow 9 never - - always\nok edit=1 rules=1\n",
@@ -181,7 +181,7 @@ fn with_lower_rules(alloc: Global, lower: u32, rows: &[u8]) -> Result<Vec<u8>, A
     transcript.extend_from_slice(
         b"> begin 1 execute 1111111111111111111111111111111111111111 com.example.app 0\nbegun 1 at=0\n",
     )?;
-    for edit in 2..lower + 2 {
+    for edit in 2..u32::from(lower) + 2 {
         let pair = format!(in alloc;
             "> add k{edit} execute deny 1 never - - always\nok edit={edit} rules=1\n"
         )?;
