@@ -90,7 +90,7 @@ fn is_told(alloc: Global, words: &[&str], bytes: &[u8], want: &str) -> Result<bo
     let mut input = MemorySource::new(Vec::new(alloc), CallNumbers::new(alloc));
     let mut output = MemorySink::with_room(alloc, 4_096, CallNumbers::new(alloc))?;
     let files = shelf_of(alloc, ("r", bytes))?;
-    let mut shelf = NotedShelf::new(files, has_text(alloc, words));
+    let mut shelf = NotedShelf::new(files, has_text(alloc, words)?);
     let mut clock = MemoryClock::new(vec![in alloc; 0]?, CallNumbers::new(alloc));
     let ended = run(
         alloc,

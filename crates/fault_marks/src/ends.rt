@@ -4,12 +4,12 @@ use crate::noted::Seen;
 use crate::refused::refusal;
 use crate::shown::quoted;
 use crate::usage::usage;
-use command_words::{Command, FileCommand, TableCommand, read_words, store_word};
+use command_words::{Command, FileCommand, TableCommand, WordsFault, read_words, store_word};
 use run_status::Status;
 use std::alloc::{AllocError, Global};
 
 /// Whether the words name a file whose text may be refused, so that its bytes are wanted afterwards.
-pub fn has_text(alloc: Global, words: &[&str]) -> bool {
+pub fn has_text(alloc: Global, words: &[&str]) -> Result<bool, AllocError> {
     match read_words(alloc, words) {
         Ok(line) => {
             let has = matches!(
@@ -18,9 +18,10 @@ pub fn has_text(alloc: Global, words: &[&str]) -> bool {
                     | Command::OnTables(TableCommand::Import { .. })
             );
             drop(line);
-            has
+            Ok(has)
         }
-        Err(_) => false,
+        Err(WordsFault::Usage) => Ok(false),
+        Err(WordsFault::OutOfMemory) => Err(AllocError),
     }
 }
 

@@ -51,17 +51,18 @@ fn by_no_words(rt: &HostRuntime, why: ErrorKind) -> Status {
 }
 
 fn by_words(rt: &HostRuntime, words: &[&str]) -> Status {
-    match store_word(rt.alloc(), words) {
-        Ok(store) => over_store(rt, words, store),
-        Err(_) => Status::OutOfMemory,
+    match (store_word(rt.alloc(), words), has_text(rt.alloc(), words)) {
+        (Ok(store), Ok(has_text)) => over_store(rt, words, store, has_text),
+        _ => Status::OutOfMemory,
     }
 }
 
-/// Runs over the store of that name, which is opened where the command asks for it.
-fn over_store(rt: &HostRuntime, words: &[&str], store: &str) -> Status {
+/// Runs over the store of that name, which is opened where the command asks for it. The bytes of a file are kept for what
+/// a person is told where the words name a text.
+fn over_store(rt: &HostRuntime, words: &[&str], store: &str, has_text: bool) -> Status {
     let mut input = StdSource::new(rt.reader());
     let mut output = StdSink::new(io::writer(rt));
-    let mut shelf = NotedShelf::new(FileShelf::new(rt), has_text(rt.alloc(), words));
+    let mut shelf = NotedShelf::new(FileShelf::new(rt), has_text);
     let mut keeper = ProgramKeeper::named(rt, store);
     let mut clock = SystemClock::new(rt);
     let status = run(
