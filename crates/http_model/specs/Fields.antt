@@ -48,13 +48,17 @@ measured method pairs =
     if list_any (is_named (codes "transfer-encoding")) pairs then Err no_length
     else by_lengths (bytes_eq method (codes "POST")) (values (codes "content-length") pairs)
 
--- the members of a value: between commas, without the white space around them
+-- the members of a value, between commas
 abbrev pub members : List ℕ → List (List ℕ)
-members value = map trim_ows (slice_split (λ b. b == 44) value)
+members value = slice_split (λ b. b == 44) value
+
+-- the member is close, without the white space around it
+abbrev pub is_close : List ℕ → Bool
+is_close member = same_name (trim_ows member) (codes "close")
 
 -- close is among the members
 abbrev pub has_close : List ℕ → Bool
-has_close value = list_any (λ member. same_name member (codes "close")) (members value)
+has_close value = list_any is_close (members value)
 
 -- a Connection field says that the connection is to be closed
 abbrev pub asks_to_close : List Pair → Bool

@@ -25,11 +25,15 @@ method_of rules = codes "GET"
 method_of (assess kind keep) = codes "POST"
 method_of edit = codes "POST"
 
+-- every assessment that has a target
+abbrev pub all_assessments : List Work
+all_assessments =
+    assess (codes "execute") true ∷ assess (codes "execute") false ∷ assess (codes "install") true ∷ assess (codes "install") false
+    ∷ assess (codes "open") true ∷ assess (codes "open") false ∷ []
+
 -- every work that has a target
 abbrev pub all_works : List Work
-all_works =
-    status ∷ rules ∷ edit ∷ assess (codes "execute") true ∷ assess (codes "execute") false ∷ assess (codes "install") true
-    ∷ assess (codes "install") false ∷ assess (codes "open") true ∷ assess (codes "open") false ∷ []
+all_works = status ∷ rules ∷ edit ∷ all_assessments
 
 -- the work at this target, byte for byte
 abbrev pub work_at : List ℕ → List Work → Option Work

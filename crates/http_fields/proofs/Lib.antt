@@ -1,0 +1,4 @@
+pub mod FewDigits
+pub mod Lengths
+pub mod FirstField
+pub mod Members
