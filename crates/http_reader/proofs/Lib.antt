@@ -1,0 +1,4 @@
+pub mod LinesEnd
+pub mod Refused
+pub mod HeadsRead
+pub mod PlainStream
